@@ -1,0 +1,10 @@
+-- Laws of the crate's definitions, each file named for its subject.
+pub mod Walks
+pub mod Table
+pub mod Lowest
+pub mod Every
+pub mod Entry
+pub mod Parity
+pub mod Formed
+pub mod Judged
+pub mod KeptRows

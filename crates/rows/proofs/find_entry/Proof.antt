@@ -1,0 +1,66 @@
+-- `rows::find_entry` meets its contract: from row i on the lowest such row is the whole tape's.
+use mathlib.Core.Path.{_≡_, _∙_, sym}
+use Prim.Native.Nat.{_+_, _-_, _≤_}
+use native.Mathlib.Omega.{arith}
+use lib.ListN.{length, drop}
+use lib.Dec.{eqb}
+use borrow.Author.Needs.{needs}
+use borrow.Author.Tests.{eq-eqb, ne-eqb}
+use Rattle.rows.specs.Row.{entry}
+use Rattle.rows.specs.Stages.{lowest}
+use Rattle.rows.proofs.Walks.{lowest-hit, lowest-miss, lowest-end}
+use Rattle.rows.proofs.find_entry.Statement.{statement}
+use Rattle.rows.proofs.find_entry.Tie as tie
+
+abbrev Inv-loop : tie.InvT-loop
+Inv-loop tape wanted i₀ i =
+    (i ≤ length tape) × (lowest (λ b. eqb (entry b) wanted) 0 tape ≡ lowest (λ b. eqb (entry b) wanted) i (drop i tape))
+
+abbrev μ-loop : tie.MeasureT-loop
+μ-loop tape wanted i₀ i = length tape - i
+
+loop-holds : tie.Need-loop-holds Inv-loop μ-loop
+loop-holds c = search needs
+
+shared-slice-read-entry-of : tie.Need-shared-slice-read-entry-of Inv-loop μ-loop
+shared-slice-read-entry-of c = search needs
+
+entry-of-requires : tie.Need-entry-of-requires Inv-loop μ-loop
+entry-of-requires c κs = search needs
+
+returns : tie.Need-returns Inv-loop μ-loop
+returns c =
+    sym
+    (c .before .before .before .before .loop .inv .1
+    ∙ lowest-hit _ _ _ (c .before .before .before .loop-test .taken) (eq-eqb _ _ (sym (c .before .entry-of .ensures) ∙ c .if1 .taken)))
+
+add-i : tie.Need-add-i Inv-loop μ-loop
+add-i c = search needs
+
+loop-less : tie.Need-loop-less Inv-loop μ-loop
+loop-less c = search needs
+
+loop-again : tie.Need-loop-again Inv-loop μ-loop
+loop-again c = (
+  search needs,
+  c .before .before .before .before .loop .inv .1
+      ∙ lowest-miss _ _ _ (c .before .before .before .loop-test .taken) (ne-eqb _ _ (λ e. c .if1 .left (c .before .entry-of .ensures ∙ e))),
+)
+
+returns-2 : tie.Need-returns-2 Inv-loop μ-loop
+returns-2 c = sym (c .before .loop .inv .1 ∙ lowest-end _ _ _ (c .loop-test .left))
+
+pub find-entry-spec : {M : Type 1} → statement M
+find-entry-spec =
+    tie.close
+    (tie.spec
+    Inv-loop
+    μ-loop
+    loop-holds
+    shared-slice-read-entry-of
+    entry-of-requires
+    returns
+    add-i
+    loop-less
+    loop-again
+    returns-2)

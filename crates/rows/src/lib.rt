@@ -1,0 +1,457 @@
+// Rows and characters: the table of all 256 rows, the first three stages of reading, and the rows that are kept.
+ghost use mathlib.Core.Path.{_≡_};
+ghost use Prim.Native.Nat.{_+_};
+ghost use lib.Dec.{eqb};
+ghost use Rattle.rows.specs.Answer.{told};
+ghost use Rattle.rows.specs.Row.{entry, even};
+ghost use Rattle.rows.specs.Stages.{lowest, step, unclosed, scan, judged};
+ghost use Rattle.rows.specs.Kept.{turn, keptAt, firstOf};
+
+// A refusal: its number in document 01's table, and its place.
+pub struct Refusal {
+    pub number: u32,
+    pub place: usize,
+}
+
+// The answer of the first three stages.
+pub enum Checked {
+    Clean,
+    Refused(Refusal),
+}
+
+// A row of the tape that was looked for.
+pub enum Found {
+    Nowhere,
+    At(usize),
+}
+
+// Where the scan of control-outs stands: outside; inside the one that a row opened; inside one that a second row spoilt.
+pub enum Side {
+    Outside,
+    Inside(usize),
+    Spoilt(usize, usize),
+}
+
+pub enum Step {
+    On(Side),
+    Fault(usize),
+}
+
+// What the walk over kept rows does at a row: keep it, or pass it by, the next row inside a control-out or not.
+pub enum Turn {
+    Keep,
+    Pass(bool),
+}
+
+// The next kept row and the place after it.
+pub enum Next {
+    End,
+    Row {
+        character: u8,
+        place: usize,
+        after: usize,
+    },
+}
+
+// The most rows that a tape may have.
+pub const LIMIT: usize = 1000000;
+
+// What the table holds for a row that is odd, and for one that is even and not one of the 50 characters.
+const ODD: u8 = 133;
+
+const FOREIGN: u8 = 134;
+
+const ROWS: [u8; 256] = [
+    0,
+    133,
+    133,
+    134,
+    133,
+    134,
+    134,
+    133,
+    133,
+    9,
+    10,
+    133,
+    134,
+    133,
+    133,
+    134,
+    133,
+    134,
+    134,
+    133,
+    134,
+    133,
+    133,
+    134,
+    134,
+    133,
+    133,
+    134,
+    133,
+    134,
+    134,
+    133,
+    133,
+    134,
+    134,
+    133,
+    134,
+    133,
+    133,
+    134,
+    40,
+    133,
+    133,
+    43,
+    133,
+    45,
+    134,
+    133,
+    48,
+    133,
+    133,
+    51,
+    133,
+    53,
+    54,
+    133,
+    133,
+    57,
+    58,
+    133,
+    134,
+    133,
+    133,
+    134,
+    133,
+    65,
+    66,
+    133,
+    68,
+    133,
+    133,
+    71,
+    72,
+    133,
+    133,
+    75,
+    133,
+    77,
+    78,
+    133,
+    80,
+    133,
+    133,
+    83,
+    133,
+    85,
+    86,
+    133,
+    133,
+    89,
+    90,
+    133,
+    134,
+    133,
+    133,
+    134,
+    134,
+    133,
+    133,
+    134,
+    133,
+    134,
+    134,
+    133,
+    133,
+    134,
+    134,
+    133,
+    134,
+    133,
+    133,
+    134,
+    133,
+    134,
+    134,
+    133,
+    134,
+    133,
+    133,
+    134,
+    134,
+    133,
+    133,
+    134,
+    133,
+    134,
+    134,
+    133,
+    133,
+    134,
+    134,
+    133,
+    134,
+    133,
+    133,
+    134,
+    8,
+    133,
+    133,
+    134,
+    133,
+    13,
+    134,
+    133,
+    134,
+    133,
+    133,
+    134,
+    133,
+    134,
+    134,
+    133,
+    133,
+    134,
+    134,
+    133,
+    134,
+    133,
+    133,
+    134,
+    32,
+    133,
+    133,
+    134,
+    133,
+    37,
+    134,
+    133,
+    133,
+    41,
+    134,
+    133,
+    134,
+    133,
+    133,
+    47,
+    133,
+    49,
+    50,
+    133,
+    52,
+    133,
+    133,
+    55,
+    56,
+    133,
+    133,
+    134,
+    133,
+    134,
+    134,
+    133,
+    134,
+    133,
+    133,
+    67,
+    133,
+    69,
+    70,
+    133,
+    133,
+    73,
+    74,
+    133,
+    76,
+    133,
+    133,
+    79,
+    133,
+    81,
+    82,
+    133,
+    84,
+    133,
+    133,
+    87,
+    88,
+    133,
+    133,
+    134,
+    133,
+    134,
+    134,
+    133,
+    133,
+    134,
+    134,
+    133,
+    134,
+    133,
+    133,
+    134,
+    134,
+    133,
+    133,
+    134,
+    133,
+    134,
+    134,
+    133,
+    134,
+    133,
+    133,
+    134,
+    133,
+    134,
+    134,
+    133,
+    133,
+    134,
+    134,
+    133,
+    134,
+    133,
+    133,
+    127,
+];
+
+// What the table holds of a row.
+pub fn entry_of(row: u8) -> u8
+    ensures { λ r. ⌜ r ≡ entry row ⌝ }
+{
+    ROWS[row as usize]
+}
+
+// Whether a row has an even number of holes, by the count itself and not by the table.
+pub fn has_even_holes(row: u8) -> bool
+    ensures { λ r. ⌜ r ≡ even row ⌝ }
+{
+    u8::count_ones(row) % 2 == 0
+}
+
+// The lowest row whose table entry is the wanted one.
+fn find_entry(tape: &[u8], wanted: u8) -> Found
+    ensures { λ r. ⌜ r ≡ lowest (λ b. eqb (entry b) wanted) 0 (now (tape .entry)) ⌝ }
+{
+    let mut i = 0;
+    while i < tape.len() {
+        if entry_of(tape[i]) == wanted {
+            return Found::At(i);
+        }
+        i += 1;
+    }
+    Found::Nowhere
+}
+
+// One row of the scan for control-outs.
+fn step_over(side: Side, i: usize, c: u8) -> Step
+    ensures { λ r. ⌜ r ≡ step side i c ⌝ }
+{
+    match side {
+        Side::Outside => match c {
+            40 => Step::On(Side::Inside(i)),
+            41 => Step::Fault(i),
+            _ => Step::On(Side::Outside),
+        },
+        Side::Inside(o) => match c {
+            41 => Step::On(Side::Outside),
+            58 | 37 => Step::On(Side::Spoilt(o, i)),
+            _ => Step::On(Side::Inside(o)),
+        },
+        Side::Spoilt(o, p) => match c {
+            41 => Step::Fault(p),
+            _ => Step::On(Side::Spoilt(o, p)),
+        },
+    }
+}
+
+fn left_open(side: Side) -> Found
+    ensures { λ r. ⌜ r ≡ unclosed side ⌝ }
+{
+    match side {
+        Side::Outside => Found::Nowhere,
+        Side::Inside(o) => Found::At(o),
+        Side::Spoilt(o, _) => Found::At(o),
+    }
+}
+
+// The lowest fault of the control-outs.
+fn find_fault(tape: &[u8]) -> Found
+    ensures { λ r. ⌜ r ≡ scan Side.Outside 0 (now (tape .entry)) ⌝ }
+{
+    let mut side = Side::Outside;
+    let mut i = 0;
+    while i < tape.len() {
+        match step_over(side, i, tape[i] % 128) {
+            Step::On(m) => {
+                side = m;
+            }
+            Step::Fault(p) => {
+                return Found::At(p);
+            }
+        }
+        i += 1;
+    }
+    left_open(side)
+}
+
+// Stages 1 to 3 of a whole tape, in document 01's order.
+pub fn check(tape: &[u8]) -> Checked
+    ensures { λ r. ⌜ told r ≡ judged (now (tape .entry)) ⌝ }
+{
+    if LIMIT < tape.len() {
+        return Checked::Refused(Refusal {
+            number: 4,
+            place: LIMIT,
+        });
+    }
+    if let Found::At(place) = find_entry(tape, ODD) {
+        return Checked::Refused(Refusal { number: 5, place });
+    }
+    if let Found::At(place) = find_entry(tape, FOREIGN) {
+        return Checked::Refused(Refusal { number: 6, place });
+    }
+    if let Found::At(place) = find_fault(tape) {
+        return Checked::Refused(Refusal { number: 7, place });
+    }
+    Checked::Clean
+}
+
+fn turn_at(within: bool, c: u8) -> Turn
+    ensures { λ r. ⌜ r ≡ turn within c ⌝ }
+{
+    if within {
+        return Turn::Pass(c != 41);
+    }
+    match c {
+        40 => Turn::Pass(true),
+        0 | 127 => Turn::Pass(false),
+        _ => Turn::Keep,
+    }
+}
+
+// The next kept row from a place on that stands outside every control-out.
+pub fn next_kept(tape: &[u8], at: usize) -> Next
+    ensures { λ r. ⌜ r ≡ firstOf (keptAt (now (tape .entry)) at) ⌝ }
+{
+    let mut within = false;
+    let mut i = at;
+    while i < tape.len() {
+        let c = tape[i] % 128;
+        let Turn::Pass(w) = turn_at(within, c) else {
+            return Next::Row {
+                character: c,
+                place: i,
+                after: i + 1,
+            };
+        };
+        within = w;
+        i += 1;
+    }
+    Next::End
+}
