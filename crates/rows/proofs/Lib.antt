@@ -1,6 +1,6 @@
 -- Laws of the crate's definitions, each file named for its subject.
 pub mod Walks
-pub mod Table
+pub mod Tabulated
 pub mod Lowest
 pub mod Every
 pub mod Entry

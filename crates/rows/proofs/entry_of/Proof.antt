@@ -2,7 +2,7 @@
 use borrow.Author.Needs.{needs}
 use lib.Count.{ones}
 use Rattle.rows.specs.Row.{entry}
-use Rattle.rows.proofs.Table.{tab-at}
+use Rattle.rows.proofs.Tabulated.{tab-at}
 use Rattle.rows.proofs.entry_of.Statement.{statement}
 use Rattle.rows.proofs.entry_of.Tie as tie
 
