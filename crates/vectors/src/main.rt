@@ -2,6 +2,7 @@
 // The letter before the first space chooses what is asked; the file stdin says which there are. The proofs here are of safety alone.
 
 mod row_cases;
+mod speed_cases;
 mod text;
 
 use libc::STDIN_FILENO;
@@ -20,6 +21,9 @@ fn answer_case(asked: u8, rest: &[u8], tape: &mut [u8], blank: &[u8]) {
         b'M' => row_cases::many(rest, blank),
         b'K' => row_cases::kept(rest, tape),
         b'E' => row_cases::entries(rest),
+        b'S' => speed_cases::speed(rest),
+        b'C' => speed_cases::code(rest),
+        b'X' => speed_cases::exact(rest),
         _ => {}
     }
 }

@@ -30,6 +30,18 @@ pub fn line_end(text: &[u8], at: usize) -> usize
     i
 }
 
+// What stands behind the first space.
+pub fn second(text: &[u8]) -> &[u8] {
+    let mut i = 0;
+    while i < text.len() {
+        if text[i] == b' ' {
+            return &text[i + 1..];
+        }
+        i += 1;
+    }
+    &text[0..0]
+}
+
 fn digit_of(c: u8) -> u64
     ensures { λ r. ⌜ r ≤ 9 ⌝ }
 {
