@@ -2,6 +2,7 @@
 // The letter before the first space chooses what is asked; the file stdin says which there are. The proofs here are of safety alone.
 
 mod row_cases;
+mod shorthand_cases;
 mod speed_cases;
 mod text;
 
@@ -24,6 +25,7 @@ fn answer_case(asked: u8, rest: &[u8], tape: &mut [u8], blank: &[u8]) {
         b'S' => speed_cases::speed(rest),
         b'C' => speed_cases::code(rest),
         b'X' => speed_cases::exact(rest),
+        b'F' => shorthand_cases::format(rest),
         _ => {}
     }
 }

@@ -4,7 +4,7 @@ use crate::text::rows_of;
 use crate::text::write_number;
 use libc::STDOUT_FILENO;
 
-fn write_checked(answer: rows::Checked) {
+pub fn write_checked(answer: rows::Checked) {
     match answer {
         rows::Checked::Clean => {
             write_number(0);

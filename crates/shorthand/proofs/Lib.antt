@@ -1,0 +1,23 @@
+-- Laws of the shorthand, in reading order: the theorems about its definitions, the cases, and what the functions' proofs share.
+pub mod Tests
+pub mod DigitRuns
+pub mod Closing
+pub mod MadeKinds
+pub mod Ranks
+pub mod Standing
+pub mod Walking
+pub mod Answered
+pub mod Accepted
+pub mod Fairness
+pub mod Refusals
+pub mod Fronts
+pub mod Starred
+pub mod Barred
+pub mod Mended
+pub mod Cases
+pub mod Padded
+pub mod LetterBytes
+pub mod Runs
+pub mod Makes
+pub mod Stands
+pub mod Walk

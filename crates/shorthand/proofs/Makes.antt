@@ -1,0 +1,81 @@
+-- What digits make: it goes by the first three and by there being more, and by the letter's class.
+use Prim.Native.Nat.{ℕ}
+use mathlib.Core.Path.{_≡_, refl, _∙_, ap}
+use mathlib.Core.Logic.{_⊎_, inl, inr, ⊎-elim}
+use mathlib.Core.Bool.{Bool, true, false, cond}
+use mathlib.Core.List.{List, [], _∷_}
+use lib.Dec.{eqb}
+use borrow.Author.Tests.{ne-eqb}
+use Rattle.shorthand.specs.declared.Mark.{Mark}
+use Rattle.shorthand.specs.declared.Mark.the-variants.{Unmarked, Plus, Delta}
+use Rattle.shorthand.specs.declared.Kind.{Kind}
+use Rattle.shorthand.specs.declared.Kind.the-variants.{Plain, Speed}
+use Rattle.shorthand.specs.declared.Digits.the-variants.{Empty, Many}
+use Rattle.shorthand.specs.Edition.{later}
+use Rattle.shorthand.specs.Lawful.{digitIn, Class, plain, speed, dimension, classOf}
+use Rattle.shorthand.specs.Stand.{Made, made, more, wrong, oneDigit, twoDigits, dimensioned, unmarked, kindMade}
+use Rattle.shorthand.specs.Places.{digitsIn, addedAll, mapped}
+
+-- ---- the first three digits are enough
+
+many : (ds : List ℕ) → addedAll Many ds ≡ Many
+unfolding addedAll
+many [] = refl
+many (d ∷ ds) = many ds
+
+pub one-enough : {A : Type 0} (lo hi : ℕ) (k : ℕ → A) (ds : List ℕ) → oneDigit lo hi k (digitsIn (addedAll Empty ds)) ≡ oneDigit lo hi k ds
+unfolding addedAll
+one-enough lo hi k [] = refl
+one-enough lo hi k (a ∷ []) = refl
+one-enough lo hi k (a ∷ (b ∷ [])) = refl
+one-enough lo hi k (a ∷ (b ∷ (c ∷ []))) = refl
+one-enough lo hi k (a ∷ (b ∷ (c ∷ (d ∷ ds)))) = rw (many ds)
+
+dimension-enough : (e : ℕ) (m : Mark) (ds : List ℕ) → dimensioned e m (digitsIn (addedAll Empty ds)) ≡ dimensioned e m ds
+unfolding addedAll
+dimension-enough e m [] = refl
+dimension-enough e m (a ∷ []) = refl
+dimension-enough e m (a ∷ (b ∷ [])) = refl
+dimension-enough e m (a ∷ (b ∷ (c ∷ []))) = refl
+dimension-enough e m (a ∷ (b ∷ (c ∷ (d ∷ ds)))) = rw (many ds)
+
+pub kind-enough : (e : ℕ) (cl : Class) (m : Mark) (ds : List ℕ) → kindMade e cl m (digitsIn (addedAll Empty ds)) ≡ kindMade e cl m ds
+kind-enough e (plain lo hi) m ds = ap (unmarked m) (one-enough lo hi Plain ds)
+kind-enough e speed m ds = ap (unmarked m) (one-enough 3 5 Speed ds)
+kind-enough e dimension m ds = dimension-enough e m ds
+
+-- ---- an item with one digit
+
+one-mapped : {A : Type 0} (k : ℕ → A) (lo hi : ℕ) (ds : List ℕ) → mapped k (oneDigit lo hi (λ d. d) ds) ≡ oneDigit lo hi k ds
+one-mapped k lo hi [] = refl
+one-mapped k lo hi (d ∷ []) = go (digitIn lo hi d)
+  where
+    go : (b : Bool) → mapped k (cond b (made d) wrong) ≡ cond b (made (k d)) wrong
+    go true = refl
+    go false = refl
+one-mapped k lo hi (d ∷ (x ∷ ds)) = refl
+
+unmarked-mapped : {A B : Type 0} (k : A → B) (m : Mark) (x : Made A) → mapped k (unmarked m x) ≡ unmarked m (mapped k x)
+unmarked-mapped k Unmarked x = refl
+unmarked-mapped k Plus x = refl
+unmarked-mapped k Delta x = refl
+
+pub one-kind : (k : ℕ → Kind) (m : Mark) (lo hi : ℕ) (ds : List ℕ) → mapped k (unmarked m (oneDigit lo hi (λ d. d) ds)) ≡ unmarked m (oneDigit lo hi k ds)
+one-kind k m lo hi ds = unmarked-mapped k m _ ∙ ap (unmarked m) (one-mapped k lo hi ds)
+
+-- ---- `00`
+
+pub no-figures : (e : ℕ) (m : Mark) (a b : ℕ) → a ≡ 0 → eqb b 0 ≡ true → twoDigits e m a b ≡ cond (later e) more wrong
+no-figures e m a b p q = rw (p, q)
+
+-- ---- the letters' classes
+
+pub class-two : {c : ℕ} → (c ≡ 71) ⊎ (c ≡ 77) → classOf c ≡ plain 2 2
+class-two h = ⊎-elim (λ e. rw e) (λ e. rw e) h
+
+pub class-speed : {c : ℕ} → (c ≡ 70) ⊎ (c ≡ 83) → classOf c ≡ speed
+class-speed h = ⊎-elim (λ e. rw e) (λ e. rw e) h
+
+pub class-dimension : {c : ℕ} → ((c ≡ 71) ⊎ (c ≡ 77) → ⊥) → (c ≡ 84 → ⊥) → ((c ≡ 70) ⊎ (c ≡ 83) → ⊥) → classOf c ≡ dimension
+class-dimension {c} p q r =
+    rw (ne-eqb c 71 (λ e. p (inl e)), ne-eqb c 77 (λ e. p (inr e)), ne-eqb c 84 q, ne-eqb c 70 (λ e. r (inl e)), ne-eqb c 83 (λ e. r (inr e)))

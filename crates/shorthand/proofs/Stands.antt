@@ -1,0 +1,110 @@
+-- How items stand, read at places of the text.
+use Prim.Native.Nat.{ℕ, zero, suc, _+_, _≤_, _<_, suc-le-suc}
+use mathlib.Core.Path.{_≡_, refl}
+use mathlib.Core.Bool.{Bool, true, false, _&&_, cond, false≢true, and-eq-true-iff}
+use mathlib.Core.List.{List, [], _∷_}
+use native.Mathlib.Nat.{not-suc-le-zero}
+use native.Mathlib.Omega.{arith}
+use lib.ListN.{length, getD, drop}
+use lib.Seq.{drop-nil}
+use borrow.Author.Tests.{eq-eqb, ne-eqb, ltb-true}
+use Rattle.shorthand.specs.declared.Item.{Item}
+use Rattle.shorthand.specs.declared.Marked.{Marked}
+use Rattle.shorthand.specs.declared.Run.{Run}
+use Rattle.shorthand.specs.declared.Digits.the-variants.{Empty}
+use Rattle.shorthand.specs.declared.Dots.{Dots}
+use Rattle.shorthand.specs.declared.Found.{Found}
+use Rattle.shorthand.specs.declared.Making.{Making}
+use Rattle.shorthand.specs.declared.Single.{Single}
+use Rattle.shorthand.specs.Edition.{sequenceMost, rank, due, allowed, anyDue}
+use Rattle.shorthand.specs.Lawful.{classOf}
+use Rattle.shorthand.specs.Stand.{starts, without, digitsOf, afterDigits, markOf, afterMark, Made, made, more, wrong, oneDigit, kindMade, Stand, whole, short, unfit, closed, lettered, named, dotFits, stand, standN}
+use Rattle.shorthand.specs.Places.{digitsIn, addedAll, Begins, single, making, Onward}
+use Rattle.shorthand.proofs.Runs.{from-place}
+use Rattle.shorthand.proofs.Makes.{one-enough, kind-enough}
+
+-- ---- the dot
+
+within-start : (c : ℕ) (t : List ℕ) (at : ℕ) → starts c (drop at t) ≡ true → at < length t
+within-start c [] at h = absurd (false≢true (rw drop-nil at h))
+within-start c (b ∷ t) zero h = omega arith
+within-start c (b ∷ t) (suc at) h = suc-le-suc (within-start c t at h)
+
+pub dot-within : (t : List ℕ) (at : ℕ) → starts 46 (drop at t) ≡ true → at < length t
+dot-within t at h = within-start 46 t at h
+
+pub behind-dot : (t : List ℕ) (at : ℕ) → starts 46 (drop at t) ≡ true → without 46 (drop at t) ≡ drop (at + 1) t
+behind-dot t at h =
+    let e = from-place t at (dot-within t at h) in
+    rw (e, rw e at h)
+
+pub no-dot : (t : List ℕ) → starts 46 t ≡ false → without 46 t ≡ t
+no-dot [] h = refl
+no-dot (b ∷ t) h = rw h
+
+pub onward-from : (t : List ℕ) (a b : ℕ) (f : Found) → a ≤ b → Onward t b f → Onward t a f
+onward-from t a b (Found.Whole it n) h w = omega arith
+onward-from t a b Found.Short h w = tt
+onward-from t a b Found.Unfit h w = tt
+
+-- ---- the mark and the digits
+
+pub letter-reads : (e c : ℕ) (t : List ℕ) (at : ℕ) (m : Marked) (r : Run) (k : Making)
+    → m .mark ≡ markOf (drop at t) → Begins t at (afterMark (drop at t)) (m .after)
+    → r .digits ≡ addedAll Empty (digitsOf (drop (m .after) t)) → Begins t (m .after) (afterDigits (drop (m .after) t)) (r .after)
+    → making k ≡ kindMade e (classOf c) (m .mark) (digitsIn (r .digits))
+    → lettered e c (drop at t) ≡ closed (λ x. record { letter = c; kind = x }) (making k) (drop (r .after) t)
+letter-reads e c t at m r k p b q d h = rw (h, p, q, d .there, b .there, kind-enough)
+
+pub sequence-reads : (e : ℕ) (t : List ℕ) (r : Run) (s : Single) → 0 < length t → getD t 0 0 ≡ 78
+    → r .digits ≡ addedAll Empty (digitsOf (drop 1 t)) → Begins t 1 (afterDigits (drop 1 t)) (r .after)
+    → single s ≡ oneDigit 3 (sequenceMost e) (λ d. d) (digitsIn (r .digits))
+    → standN e t ≡ closed (λ d. d) (single s) (drop (r .after) t)
+unfolding standN
+sequence-reads e [] r s l n q d h = absurd (not-suc-le-zero l)
+sequence-reads e (c ∷ t) r s l n q d h = rw (eq-eqb c 78 n, h, q, d .there, one-enough)
+
+pub sequence-missing : (e : ℕ) (t : List ℕ) → length t ≡ 0 → standN e t ≡ short
+unfolding standN
+sequence-missing e [] h = refl
+sequence-missing e (c ∷ t) h = absurd (omega arith)
+
+pub sequence-other : (e : ℕ) (t : List ℕ) → 0 < length t → (getD t 0 0 ≡ 78 → ⊥) → standN e t ≡ unfit
+unfolding standN
+sequence-other e [] l n = absurd (not-suc-le-zero l)
+sequence-other e (c ∷ t) l n = rw (ne-eqb c 78 n)
+
+-- ---- a whole item is due
+
+-- what holds of both cases of a test holds of the test's outcome
+by-test : {A : Type 0} (P : A → Type 0) (b : Bool) {x y : A} → (b ≡ true → P x) → P y → P (cond b x y)
+by-test P true f g = f refl
+by-test P false f g = g
+
+abbrev Ranked : ℕ → Stand Item → Type 0
+Ranked last (whole it rest) = last < rank (it .letter)
+Ranked last short = Unit {0}
+Ranked last unfit = Unit {0}
+
+closed-ranked : {A : Type 0} (last : ℕ) (f : A → Item) → ((a : A) → last < rank (f a .letter)) → (m : Made A) (rest : List ℕ) → Ranked last (closed f m rest)
+closed-ranked last f h (made a) rest = h a
+closed-ranked last f h more [] = tt
+closed-ranked last f h more (b ∷ t) = tt
+closed-ranked last f h wrong rest = tt
+
+named-ranked : (e last : ℕ) (t : List ℕ) → Ranked last (named e last t)
+unfolding due
+named-ranked e last [] = by-test (Ranked last) (anyDue e last) (λ h. tt) tt
+named-ranked e last (c ∷ t) = by-test (Ranked last) (due last c && allowed e c) item tt
+  where
+    item : due last c && allowed e c ≡ true → Ranked last (lettered e c t)
+    item h =
+        closed-ranked last (λ k. record { letter = c; kind = k }) (λ k. ltb-true last (rank c) (and-eq-true-iff (due last c) (allowed e c) .0 h .0))
+        (kindMade e (classOf c) (markOf t) (digitsOf (afterMark t))) (afterDigits (afterMark t))
+
+stand-ranked : (e : ℕ) (dots : Dots) (last : ℕ) (t : List ℕ) → Ranked last (stand e dots last t)
+unfolding stand
+stand-ranked e dots last t = by-test (Ranked last) (dotFits e dots (starts 46 t)) (λ h. named-ranked e last (without 46 t)) tt
+
+pub whole-ranked : (e : ℕ) (dots : Dots) (last : ℕ) (t : List ℕ) {it : Item} {rest : List ℕ} → stand e dots last t ≡ whole it rest → last < rank (it .letter)
+whole-ranked e dots last t h = rw h at (stand-ranked e dots last t)

@@ -1,0 +1,56 @@
+-- A Format as its parts: N's digits, dots or none, and the items; and what reading and punching need of an item.
+use Prim.Native.Nat.{ℕ, _+_, _-_}
+use mathlib.Core.Bool.{Bool, true, false, cond}
+use mathlib.Core.List.{List, [], _∷_, _++_}
+use lib.ListN.{length, take, replicate}
+use Rattle.shorthand.specs.declared.Mark.{Mark}
+use Rattle.shorthand.specs.declared.Mark.the-variants.{Unmarked, Plus, Delta}
+use Rattle.shorthand.specs.declared.Missing.{Missing}
+use Rattle.shorthand.specs.declared.Figures.{Figures}
+use Rattle.shorthand.specs.declared.Kind.{Kind}
+use Rattle.shorthand.specs.declared.Kind.the-variants.{Plain, Speed, Dimension}
+use Rattle.shorthand.specs.declared.Item.{Item}
+use Rattle.shorthand.specs.declared.Format.{Format}
+
+-- what an unused place holds
+abbrev pub blank : Item
+blank = record { letter = 0; kind = Plain 0 }
+
+-- the Format with these parts: the items and then unused places, 22 in all
+abbrev pub formatOf : ℕ → Bool → List Item → Format
+formatOf n dots its = record { sequence = n; dots = dots; count = length its; items = its ++ replicate (22 - length its) blank }
+
+-- the items of a Format
+abbrev pub itemsOf : Format → List Item
+itemsOf f = take (f .count) (f .items)
+
+-- what a refusal hands back
+abbrev pub emptyFormat : Format
+emptyFormat = formatOf 0 false []
+
+-- how many digits an item's word has, all punched
+abbrev pub width : Kind → ℕ
+width (Plain n) = n
+width (Speed n) = n
+width (Dimension d) = d .before + d .after
+
+-- whether a sign may stand, and must
+pub data Sign : Type 0 where
+  barred required optional : Sign
+
+-- no mark: never a sign; else by the edition, a missing sign means plus or is refused
+abbrev pub markSign : Mark → Bool → Sign
+markSign Unmarked bare = barred
+markSign Plus bare = cond bare optional required
+markSign Delta bare = cond bare optional required
+
+abbrev pub signOf : Kind → Sign
+signOf (Plain n) = barred
+signOf (Speed n) = barred
+signOf (Dimension d) = markSign (d .mark) (d .bare)
+
+-- "D" is incremental, all else absolute
+abbrev pub incremental : Mark → Bool
+incremental Unmarked = false
+incremental Plus = false
+incremental Delta = true

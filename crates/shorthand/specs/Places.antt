@@ -1,0 +1,98 @@
+-- What the answers of the code's private functions say: a place of the text stands for the text from there on.
+use Prim.Native.Nat.{ℕ, _+_, _≤_, _<_, max}
+use mathlib.Core.Path.{_≡_}
+use mathlib.Core.Bool.{Bool}
+use mathlib.Core.List.{List, [], _∷_}
+use lib.ListN.{length, drop, set}
+use Rattle.rows.specs.Answer.{Answer, told, void, valueOr}
+use Rattle.shorthand.specs.declared.Kind.{Kind}
+use Rattle.shorthand.specs.declared.Item.{Item}
+use Rattle.shorthand.specs.declared.Format.{Format}
+use Rattle.shorthand.specs.declared.Parsed.{Parsed}
+use Rattle.shorthand.specs.declared.Digits.{Digits}
+use Rattle.shorthand.specs.declared.Digits.the-variants.{Empty, One, Two, Three, Many}
+use Rattle.shorthand.specs.declared.Single.{Single}
+use Rattle.shorthand.specs.declared.Making.{Making}
+use Rattle.shorthand.specs.declared.Found.{Found}
+use Rattle.shorthand.specs.declared.Sequence.{Sequence}
+use Rattle.shorthand.specs.Layout.{emptyFormat}
+use Rattle.shorthand.specs.Stand.{Made, made, more, wrong, Stand, whole, short, unfit}
+
+-- ---- digits
+
+-- the digits that the code holds; past three they make nothing, whatever they are
+abbrev pub digitsIn : Digits → List ℕ
+digitsIn Empty = []
+digitsIn (One a) = a ∷ []
+digitsIn (Two a b) = a ∷ b ∷ []
+digitsIn (Three a b c) = a ∷ b ∷ c ∷ []
+digitsIn Many = 0 ∷ 0 ∷ 0 ∷ 0 ∷ []
+
+-- the same with one digit more
+abbrev pub added : Digits → ℕ → Digits
+added Empty d = One d
+added (One a) d = Two a d
+added (Two a b) d = Three a b d
+added (Three a b c) d = Many
+added Many d = Many
+
+unfoldable pub addedAll : Digits → List ℕ → Digits
+addedAll ds [] = ds
+addedAll ds (d ∷ r) = addedAll (added ds d) r
+
+-- ---- places
+
+-- n is the place in t, from the place at on, where rest begins
+pub record Begins (t : List ℕ) (at : ℕ) (rest : List ℕ) (n : ℕ) : Type 0 where
+  pub there : drop n t ≡ rest
+  pub behind : at ≤ n
+  pub within : n ≤ max at (length t)
+
+-- ---- what the code's answers say, in the definitions' words
+
+abbrev pub single : Single → Made ℕ
+single (Single.Digit d) = made d
+single Single.More = more
+single Single.Wrong = wrong
+
+abbrev pub mapped : {A B : Type 0} → (A → B) → Made A → Made B
+mapped f (made a) = made (f a)
+mapped f more = more
+mapped f wrong = wrong
+
+abbrev pub making : Making → Made Kind
+making (Making.Made k) = made k
+making Making.More = more
+making Making.Wrong = wrong
+
+-- of an item in the text t, whose place stands for the text from there on
+abbrev pub found : List ℕ → Found → Stand Item
+found t (Found.Whole it n) = whole it (drop n t)
+found t Found.Short = short
+found t Found.Unfit = unfit
+
+abbrev pub foundN : List ℕ → Sequence → Stand ℕ
+foundN t (Sequence.Whole d n) = whole d (drop n t)
+foundN t Sequence.Short = short
+foundN t Sequence.Unfit = unfit
+
+-- a whole item ends at the place from or behind it, and within t
+abbrev pub Onward : List ℕ → ℕ → Found → Type 0
+Onward t from (Found.Whole it n) = (from ≤ n) × (n ≤ length t)
+Onward t from Found.Short = Unit {0}
+Onward t from Found.Unfit = Unit {0}
+
+abbrev pub OnwardN : List ℕ → Sequence → Type 0
+OnwardN t (Sequence.Whole d n) = (0 < n) × (n ≤ length t)
+OnwardN t Sequence.Short = Unit {0}
+OnwardN t Sequence.Unfit = Unit {0}
+
+-- ---- the Format beside the outcome
+
+pub record Says (r : Parsed) (a : Answer Format) : Type 0 where
+  pub outcome : told (r .outcome) ≡ void a
+  pub format : r .format ≡ valueOr emptyFormat a
+
+-- one item more, and the dots that it has
+abbrev pub pushed : Format → Bool → Item → Format
+pushed f dots it = record { sequence = f .sequence; dots = dots; count = f .count + 1; items = set (f .items) (f .count) it }
