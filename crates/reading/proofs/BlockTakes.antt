@@ -1,0 +1,69 @@
+-- An end and a block that stand as a Format allows are read.
+use Prim.Native.Nat.{ℕ, _^_, _<_}
+use mathlib.Core.Path.{_≡_, ap, _∙_}
+use mathlib.Core.Bool.{Bool, true, false, _||_, cond}
+use mathlib.Core.List.{List, [], _∷_, _++_, append-assoc}
+use native.Mathlib.Omega.{arith}
+use lib.ListN.{length, length-append}
+use Rattle.rows.specs.Kept.{KeptRow}
+use Rattle.shorthand.specs.declared.Missing.the-variants.{Nothing}
+use Rattle.shorthand.specs.declared.Format.{Format}
+use Rattle.shorthand.specs.Layout.{itemsOf}
+use Rattle.shorthand.specs.Facts.{Facts}
+use Rattle.reading.specs.declared.Word.{Word}
+use Rattle.reading.specs.declared.Block.{Block}
+use Rattle.reading.specs.Record.{blockOf}
+use Rattle.reading.specs.Relation.{digits, Words, End, lf, cr-lf, skipRows, sequenceRows, Blocked, block, chars}
+use Rattle.reading.specs.Figures.{fronts, behind, ended}
+use Rattle.reading.specs.Parse.{BlockRead, sequenced, blockAt}
+use Rattle.reading.proofs.RowsAhead.{fronts-heads, behind-chars, Takes}
+use Rattle.reading.proofs.WordTakes.{reads-full, figures-take}
+use Rattle.reading.proofs.WordsTake.{words-apart, words-take}
+
+-- an end, and the place of its LF
+pub end-takes : {e : List ℕ} → End e → (len a b : ℕ) (rs : List KeptRow) (u : List ℕ) → chars rs ≡ e ++ u → (place : ℕ) × Takes (ended len a b rs) place u
+end-takes lf len a b [] u q = let z = ap length q in absurd (omega arith)
+end-takes lf len a b (r ∷ rs) u q = let c : r .char ≡ 10 = cc in (r .place, record { rest = rs; takes = rw c; leaves = cc })
+end-takes cr-lf len a b [] u q = let z = ap length q in absurd (omega arith)
+end-takes cr-lf len a b (r ∷ []) u q = let z = ap length q in absurd (omega arith)
+end-takes cr-lf len a b (r ∷ (l ∷ rs)) u q =
+    let c : r .char ≡ 13 = cc in
+    let d : l .char ≡ 10 = cc in
+    (l .place, record { rest = rs; takes = rw (c, d); leaves = cc })
+
+-- N or ":"
+marked : (alignment : Bool) (rs : List KeptRow) (x : List ℕ) → chars rs ≡ cond alignment 58 78 ∷ x
+    → ((fronts 78 rs || fronts 58 rs) ≡ true) × (fronts 58 rs ≡ alignment) × (fronts 47 rs ≡ false)
+marked true rs x e = (rw (fronts-heads 78 rs, fronts-heads 58 rs, e), rw (fronts-heads 58 rs, e), rw (fronts-heads 47 rs, e))
+marked false rs x e = (rw (fronts-heads 78 rs, fronts-heads 58 rs, e), rw (fronts-heads 58 rs, e), rw (fronts-heads 47 rs, e))
+
+-- a block's number, words and end
+sequenced-takes : (f : Format) → Facts f → (len : ℕ) (skip alignment : Bool) {n : ℕ} {ws : List Word} {r e : List ℕ} → n < 10 ^ f .sequence → Words (f .dots) (itemsOf f) ws r → End e
+    → (s : List ℕ) (rs : List KeptRow) → chars rs ≡ sequenceRows (f .sequence) alignment n ++ (r ++ (e ++ s))
+    → (place : ℕ) × Takes (sequenced len f skip rs) (record { block = blockOf skip alignment n ws; lf = place }) s
+sequenced-takes f facts len skip alignment {n} {ws} {r} {e} small w end s rs q =
+    let m = marked alignment rs _ q in
+    let apart = words-apart (facts .fair) w end s in
+    let a = figures-take len 9 (f .sequence) n Nothing _ _ (behind rs) (reads-full (f .sequence) n small) (behind-chars _ _ rs q) apart in
+    let b = words-take len (f .dots) s end w (facts .fair) (a .rest) (a .leaves) in
+    let c = end-takes end len 14 10 (b .rest) s (b .leaves) in
+    (c .0, record { rest = c .1 .rest; takes = rw (m .0, m .1, a .takes, b .takes, c .1 .takes); leaves = c .1 .leaves })
+
+-- "/" or none before them
+skip-takes : (len : ℕ) (f : Format) (skip alignment : Bool) (x : List ℕ) (b : ℕ → BlockRead) (s : List ℕ) (rs : List KeptRow) → chars rs ≡ skipRows skip ++ (cond alignment 58 78 ∷ x)
+    → ((rs′ : List KeptRow) → chars rs′ ≡ cond alignment 58 78 ∷ x → (place : ℕ) × Takes (sequenced len f skip rs′) (b place) s) → (place : ℕ) × Takes (blockAt len f rs) (b place) s
+unfolding blockAt
+skip-takes len f true alignment x b s rs q t = rw (fronts-heads 47 rs, q) (t (behind rs) (behind-chars _ _ rs q))
+skip-takes len f false alignment x b s rs q t = rw (marked alignment rs x q .2) (t rs q)
+
+pub block-takes : (f : Format) → Facts f → {b : Block} {x : List ℕ} → Blocked f b x → (len : ℕ) (s : List ℕ) (rs : List KeptRow) → chars rs ≡ x ++ s
+    → (place : ℕ) × Takes (blockAt len f rs) (record { block = b; lf = place }) s
+block-takes f facts (block {n} {ws} {r} {e} skip alignment small w end) len s rs q =
+    skip-takes len f skip alignment (digits (f .sequence) n ++ (r ++ (e ++ s))) (λ place. record { block = blockOf skip alignment n ws; lf = place }) s rs
+    (q ∙ simp append-assoc)
+    (λ rs′ h. sequenced-takes f facts len skip alignment small w end s rs′ h)
+
+-- a block has at least one row
+pub block-some : {f : Format} {b : Block} {x : List ℕ} → Blocked f b x → 0 < length x
+block-some {f} (block {n} {r = r} {e = e} skip alignment small w end) =
+    omega (arith, length-append (skipRows skip) (sequenceRows (f .sequence) alignment n ++ (r ++ e)))

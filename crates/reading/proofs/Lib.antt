@@ -1,0 +1,27 @@
+-- Laws of the crate's definitions, each file named for its subject.
+pub mod Cases
+pub mod Fetched
+pub mod DigitRows
+pub mod RowsAhead
+pub mod WordTakes
+pub mod WordsTake
+pub mod BlockTakes
+pub mod Complete
+pub mod Outcomes
+pub mod Runs
+pub mod ReadData
+pub mod ReadWords
+pub mod ReadBlocks
+pub mod Sound
+pub mod Places
+pub mod Refusals
+pub mod ItemSteps
+pub mod Gathering
+pub mod DigitRun
+pub mod Signs
+pub mod Widths
+pub mod Wrong
+pub mod Started
+pub mod BlockWalk
+pub mod Numbered
+pub mod Programs

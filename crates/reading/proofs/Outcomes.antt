@@ -1,0 +1,93 @@
+-- What holds of every answer of a parser, taken or refused, as a family over the answer; and how it goes through `>>=` and `cond`.
+use Prim.Native.Nat.{ℕ, _≤_}
+use mathlib.Core.Path.{_≡_, refl, sym, _∙_, subst}
+use mathlib.Core.Bool.{Bool, true, false, cond}
+use mathlib.Core.List.{List, [], _∷_, _++_, append-assoc, map-append}
+use native.Mathlib.Omega.{arith}
+use Rattle.rows.specs.Answer.{Answer, taken, refused, _>>=_}
+use Rattle.rows.specs.Kept.{KeptRow}
+use Rattle.reading.specs.Relation.{chars}
+use Rattle.reading.specs.Figures.{Behind, taking, wrong}
+
+-- a refusal has what Q says of its number and place, and what is taken has what P says
+pub data Holds {A : Type 0} (Q : ℕ → ℕ → Type 0) (P : A → Type 0) : Answer A → Type 0 where
+  refusal : {n p : ℕ} → Q n p → Holds Q P (refused n p)
+  value : {a : A} → P a → Holds Q P (taken a)
+
+module _ {Q : ℕ → ℕ → Type 0} where
+  pub holds-map : {A : Type 0} {P R : A → Type 0} {x : Answer A} → ((a : A) → P a → R a) → Holds Q P x → Holds Q R x
+  holds-map f (refusal h) = refusal h
+  holds-map f (value {a = a} h) = value (f a h)
+
+  pub holds-bind : {A B : Type 0} {P : A → Type 0} {R : B → Type 0} {x : Answer A} {f : A → Answer B} → Holds Q P x → ((a : A) → P a → Holds Q R (f a)) → Holds Q R (x >>= f)
+  holds-bind (refusal h) g = refusal h
+  holds-bind (value {a = a} h) g = g a h
+
+  pub holds-cond : {A : Type 0} {P : A → Type 0} {x y : Answer A} (b : Bool) → (b ≡ true → Holds Q P x) → (b ≡ false → Holds Q P y) → Holds Q P (cond b x y)
+  holds-cond true f g = f refl
+  holds-cond false f g = g refl
+
+  -- what is taken is also what the answer takes
+  pub holds-with : {A : Type 0} {P : A → Type 0} {x : Answer A} → Holds Q P x → Holds Q (λ a. (x ≡ taken a) × P a) x
+  holds-with (refusal h) = refusal h
+  holds-with (value h) = value (refl, h)
+
+  pub of-taken : {A : Type 0} {P : A → Type 0} {x : Answer A} {a : A} → Holds Q P x → x ≡ taken a → P a
+  of-taken (refusal h) e = let z : _≡_ {A = ℕ} 0 1 = cc in absurd (omega arith)
+  of-taken {P = P} {a = a} (value {a = b} h) e = let q : b ≡ a = cc in subst P q h
+
+  pub of-refused : {A : Type 0} {P : A → Type 0} {x : Answer A} {n p : ℕ} → Holds Q P x → x ≡ refused n p → Q n p
+  of-refused {n = n} {p = p} (refusal {n = m} {p = q} h) e = let en : m ≡ n = cc in let ep : q ≡ p = cc in rw (← en, ← ep) h
+  of-refused (value h) e = let z : _≡_ {A = ℕ} 0 1 = cc in absurd (omega arith)
+
+-- the rows that a parser takes stand before its rest, and R is of them and of its value
+pub record Reads {A : Type 0} (R : A → List KeptRow → Type 0) (rs : List KeptRow) (x : Behind A) : Type 0 where
+  pub took : List KeptRow
+  pub split : rs ≡ took ++ x .rest
+  pub stands : R (x .value) took
+
+-- Q has the refusals of the fourth stage's table, with P for places of rows: 8 to 13 at a row, 8 and 14 where the tape ends
+pub record Table (Q : ℕ → ℕ → Type 0) (P : ℕ → Type 0) (len : ℕ) : Type 0 where
+  pub at-row : (n : ℕ) → 8 ≤ n → n ≤ 13 → (p : ℕ) → P p → Q n p
+  pub no-head : Q 8 len
+  pub cut : Q 14 len
+
+-- every row's place is among P
+pub data Placed (P : ℕ → Type 0) : List KeptRow → Type 0 where
+  no-row : Placed P []
+  next-row : {r : KeptRow} {rs : List KeptRow} → P (r .place) → Placed P rs → Placed P (r ∷ rs)
+
+pub chars-append : (s u : List KeptRow) → chars (s ++ u) ≡ chars s ++ chars u
+chars-append s u = map-append (λ r. r .char) s u
+
+placed-rest : {P : ℕ → Type 0} (s rest : List KeptRow) → Placed P (s ++ rest) → Placed P rest
+placed-rest [] rest all = all
+placed-rest (r ∷ s) rest (next-row h all) = placed-rest s rest all
+
+pub placed-behind : {P : ℕ → Type 0} {rs rest : List KeptRow} (s : List KeptRow) → rs ≡ s ++ rest → Placed P rs → Placed P rest
+placed-behind {P = P} {rest = rest} s e all = placed-rest s rest (subst (λ l. Placed P l) e all)
+
+module _ {Q : ℕ → ℕ → Type 0} {A : Type 0} {R : A → List KeptRow → Type 0} where
+  pub reads-done : {a : A} {rs : List KeptRow} → R a [] → Holds Q (Reads R rs) (taking a rs)
+  reads-done h = value (record { took = []; split = refl; stands = h })
+
+  -- the rows s stand before what is read next
+  pub reads-after : {x : Answer (Behind A)} {rs rest : List KeptRow} (s : List KeptRow) → rs ≡ s ++ rest → Holds Q (Reads (λ b u. R b (s ++ u)) rest) x → Holds Q (Reads R rs) x
+  reads-after s e h = holds-map (λ b k. record { took = s ++ k .took; split = e ∙ rw (k .split) (sym (append-assoc s (k .took) (b .rest))); stands = k .stands }) h
+
+pub reads-map : {Q : ℕ → ℕ → Type 0} {A : Type 0} {R S : A → List KeptRow → Type 0} {x : Answer (Behind A)} {rs : List KeptRow}
+    → ((a : A) (s : List KeptRow) → R a s → S a s) → Holds Q (Reads R rs) x → Holds Q (Reads S rs) x
+reads-map f h = holds-map (λ b k. record { took = k .took; split = k .split; stands = f (b .value) (k .took) (k .stands) }) h
+
+module _ {Q : ℕ → ℕ → Type 0} {A B : Type 0} {R : A → List KeptRow → Type 0} {S : B → List KeptRow → Type 0} where
+  pub reads-then : {P : ℕ → Type 0} {x : Answer (Behind A)} {f : Behind A → Answer (Behind B)} {rs : List KeptRow} → Placed P rs → Holds Q (Reads R rs) x
+      → ((a : Behind A) (s : List KeptRow) → Placed P (a .rest) → R (a .value) s → Holds Q (Reads (λ b u. S b (s ++ u)) (a .rest)) (f a))
+      → Holds Q (Reads S rs) (x >>= f)
+  reads-then all h g =
+      holds-bind h (λ a k. reads-after (k .took) (k .split) (g a (k .took) (placed-behind (k .took) (k .split) all) (k .stands)))
+
+-- the row found at the front is refused by n, or the end of the tape by e
+pub wrong-told : {Q : ℕ → ℕ → Type 0} {P : ℕ → Type 0} {A : Type 0} {S : A → Type 0} (len e n : ℕ) → Q e len → ((p : ℕ) → P p → Q n p) → (rs : List KeptRow) → Placed P rs
+    → Holds Q S (wrong len e n rs)
+wrong-told len e n ends at [] all = refusal ends
+wrong-told len e n ends at (r ∷ rs) (next-row h all) = refusal (at (r .place) h)

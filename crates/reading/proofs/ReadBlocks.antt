@@ -1,0 +1,149 @@
+-- What the parsers of an end, a block, the head and all blocks read.
+use Prim.Native.Nat.{ℕ, zero, suc, _+_, _≤_, _<_, zero-le, suc-le-suc}
+use mathlib.Core.Path.{_≡_, refl, sym, ap, _∙_}
+use mathlib.Core.Logic.{_⊎_, inl, inr}
+use mathlib.Core.Bool.{Bool, true, false, _||_, cond, false≢true}
+use mathlib.Core.List.{List, [], _∷_, _++_, append-nil}
+use native.Mathlib.Nat.{le-refl}
+use native.Mathlib.Omega.{arith}
+use lib.ListN.{length, length-append}
+use lib.Dec.{eqb, lit≤}
+use borrow.Author.Tests.{eqb-true}
+use Rattle.rows.specs.Answer.{taken}
+use Rattle.rows.specs.Kept.{KeptRow}
+use Rattle.rows.specs.Passes.{Every}
+use Rattle.shorthand.specs.declared.Missing.the-variants.{Nothing}
+use Rattle.shorthand.specs.declared.Format.{Format}
+use Rattle.shorthand.specs.Layout.{itemsOf}
+use Rattle.reading.specs.declared.Block.{Block}
+use Rattle.reading.specs.Relation.{End, lf, cr-lf, skipRows, Blocked, block, chars}
+use Rattle.reading.specs.Figures.{Behind, fronts, behind, afterCR, ended}
+use Rattle.reading.specs.Parse.{BlockRead, sequenced, blockAt, headAt, Entry, blocksAt}
+use Rattle.reading.specs.Answers.{programAt}
+use Rattle.reading.proofs.Outcomes.{Holds, refusal, value, holds-map, holds-bind, holds-cond, holds-with, Reads, Table, Placed, next-row, placed-behind, chars-append, wrong-told, reads-done, reads-map, reads-after, reads-then}
+use Rattle.reading.proofs.Runs.{figures-read}
+use Rattle.reading.proofs.ReadData.{either, punched-full, Sayable}
+use Rattle.reading.proofs.ReadWords.{Fronted, fronted, words-read}
+
+-- the last of some rows has the place p
+pub data Last (p : ℕ) : List KeptRow → Type 0 where
+  last : {r : KeptRow} → r .place ≡ p → Last p (r ∷ [])
+  before : {r : KeptRow} {rs : List KeptRow} → Last p rs → Last p (r ∷ rs)
+
+last-after : {p : ℕ} (s u : List KeptRow) → Last p u → Last p (s ++ u)
+last-after [] u h = h
+last-after (r ∷ s) u h = before (last-after s u h)
+
+-- ---- an end
+
+module _ {Q : ℕ → ℕ → Type 0} {P : ℕ → Type 0} {len : ℕ} (t : Table Q P len) where
+  after-read : (e n : ℕ) → Q e len → ((p : ℕ) → P p → Q n p) → (cr : KeptRow) → cr .char ≡ 13 → P (cr .place) → (rs : List KeptRow)
+      → Holds Q (Reads (λ p s. End (chars s) × Last p s) (cr ∷ rs)) (afterCR len e n cr rs)
+  after-read e n ends at cr is h [] = refusal ends
+  after-read e n ends at cr is h (r ∷ rs) =
+      holds-cond (eqb (r .char) 10)
+      (λ q. value (record { took = cr ∷ r ∷ []; split = refl; stands = (rw (is, eqb-true (r .char) 10 q) cr-lf, before (last refl)) }))
+      (λ q. refusal (at (cr .place) h))
+
+  ended-read : (e n : ℕ) → Q e len → ((p : ℕ) → P p → Q n p) → (rs : List KeptRow) → Placed P rs → Holds Q (Reads (λ p s. End (chars s) × Last p s) rs) (ended len e n rs)
+  ended-read e n ends at [] all = refusal ends
+  ended-read e n ends at (r ∷ rs) (next-row h all) =
+      holds-cond (eqb (r .char) 10)
+      (λ q. value (record { took = r ∷ []; split = refl; stands = (rw (eqb-true (r .char) 10 q) lf, last refl) }))
+      (λ q. holds-cond (eqb (r .char) 13) (λ is. after-read e n ends at r (eqb-true (r .char) 13 is) h rs) (λ other. refusal (at (r .place) h)))
+
+-- ---- a block
+
+-- N or ":" at the front
+lead : {P : ℕ → Type 0} (rs : List KeptRow) → Placed P rs → (fronts 78 rs || fronts 58 rs) ≡ true → Fronted P (cond (fronts 58 rs) 58 78) rs
+lead {P} rs all e = go (fronts 58 rs) refl (either (fronts 78 rs) (fronts 58 rs) e)
+  where
+    go : (b : Bool) → fronts 58 rs ≡ b → (fronts 78 rs ≡ true) ⊎ (fronts 58 rs ≡ true) → Fronted P (cond b 58 78) rs
+    go true q h = fronted 58 rs all q
+    go false q (inl h) = fronted 78 rs all h
+    go false q (inr h) = absurd (false≢true (sym q ∙ h))
+
+-- a block's rows, without its "/", to its LF
+abbrev pub BlockRows : Format → Bool → BlockRead → List KeptRow → Type 0
+BlockRows f skip b s = Blocked f (b .block) (skipRows skip ++ chars s) × Last (b .lf) s
+
+module _ {Q : ℕ → ℕ → Type 0} {P : ℕ → Type 0} {len : ℕ} (t : Table Q P len) (f : Format) (says : Every (λ it. Sayable Q P (it .kind)) (itemsOf f)) where
+  sequenced-read : (skip : Bool) (rs : List KeptRow) → Placed P rs → Holds Q (Reads (BlockRows f skip) rs) (sequenced len f skip rs)
+  sequenced-read skip rs all =
+      let nine = t .at-row 9 (lit≤ tt) (lit≤ tt) in
+      holds-cond (fronts 78 rs || fronts 58 rs)
+      (λ e. let l = lead rs all e in
+      reads-after (l .row ∷ []) (l .split)
+      (reads-then (l .after) (figures-read t 9 nine Nothing (f .sequence) (behind rs) (l .after)) λ n ds all₁ p.
+      reads-then all₁ (words-read t (f .dots) (itemsOf f) says (n .rest) all₁) λ ws u all₂ h.
+      reads-then all₂ (ended-read t 14 10 (t .cut) (t .at-row 10 (lit≤ tt) (lit≤ tt)) (ws .rest) all₂) λ x s all₃ z.
+      let full = punched-full p in
+      reads-done
+      (rw (append-nil s, chars-append ds (u ++ s), chars-append u s, l .is, full .1) (block skip (fronts 58 rs) (full .0) h (z .0)), rw (append-nil s) (before (last-after ds (u ++ s) (last-after u s (z .1)))))))
+      (λ e. wrong-told len 14 9 (t .cut) nine rs all)
+
+  pub block-read : (rs : List KeptRow) → Placed P rs → Holds Q (Reads (BlockRows f false) rs) (blockAt len f rs)
+  unfolding blockAt
+  block-read rs all =
+      holds-cond (fronts 47 rs)
+      (λ e. let s = fronted 47 rs all e in
+      reads-after (s .row ∷ []) (s .split) (reads-map (λ b r h. (rw (s .is) (h .0), before (h .1))) (sequenced-read true (behind rs) (s .after))))
+      (λ e. sequenced-read false rs all)
+
+-- ---- the head and all blocks
+
+-- "%" and an end, to the LF at p
+pub record HeadRows (p : ℕ) (s : List KeptRow) : Type 0 where
+  pub mark : List ℕ
+  pub rows : chars s ≡ 37 ∷ mark
+  pub ends : End mark
+  pub to : Last p s
+
+pub head-read : {Q : ℕ → ℕ → Type 0} {P : ℕ → Type 0} {len : ℕ} → Table Q P len → (rs : List KeptRow) → Placed P rs → Holds Q (Reads HeadRows rs) (headAt len rs)
+unfolding headAt
+head-read {len = len} t rs all =
+    let eight = t .at-row 8 (lit≤ tt) (lit≤ tt) in
+    holds-cond (fronts 37 rs)
+    (λ e. let s = fronted 37 rs all e in
+    reads-after (s .row ∷ []) (s .split)
+    (reads-map (λ p r h. record { mark = chars r; rows = rw (s .is); ends = h .0; to = before (h .1) }) (ended-read t 8 8 (t .no-head) eight (behind rs) (s .after))))
+    (λ e. wrong-told len 8 8 (t .no-head) eight rs all)
+
+-- the blocks of a tape one after the other, each from the place after the LF before it to its own
+pub data Entries (f : Format) : ℕ → List Entry → List KeptRow → Type 0 where
+  none : {from : ℕ} → Entries f from [] []
+  more : {from p : ℕ} {b : Block} {es : List Entry} {s rest : List KeptRow} → Blocked f b (chars s) → Last p s → Entries f (p + 1) es rest
+      → Entries f from (record { block = b; from = from; to = p + 1 } ∷ es) (s ++ rest)
+
+pub last-some : {p : ℕ} {s : List KeptRow} → Last p s → 0 < length s
+last-some (last e) = lit≤ tt
+last-some (before h) = suc-le-suc zero-le
+
+module _ {Q : ℕ → ℕ → Type 0} {P : ℕ → Type 0} {len : ℕ} (t : Table Q P len) (f : Format) (says : Every (λ it. Sayable Q P (it .kind)) (itemsOf f)) where
+  pub blocks-read : (k from : ℕ) (rs : List KeptRow) → length rs ≤ k → Placed P rs → Holds Q (λ es. Entries f from es rs) (blocksAt k len f from rs)
+  unfolding blocksAt
+  blocks-read zero from [] fuel all = value none
+  blocks-read zero from (r ∷ rs) fuel all = absurd (omega arith)
+  blocks-read (suc k) from [] fuel all = value none
+  blocks-read (suc k) from (r ∷ rs) fuel all =
+      holds-bind (block-read t f says (r ∷ rs) all) λ b h.
+      let some : 0 < length (h .took) = last-some (h .stands .1) in
+      let whole : suc (length rs) ≡ length (h .took) + length (b .rest) = ap length (h .split) ∙ length-append (h .took) (b .rest) in
+      let left : length (b .rest) ≤ k = omega arith in
+      holds-bind (blocks-read k (b .value .lf + 1) (b .rest) left (placed-behind (h .took) (h .split) all)) λ es m.
+      value (rw (h .split) (more (h .stands .0) (h .stands .1) m))
+
+-- the head and the blocks behind it
+pub record ProgramRows (len : ℕ) (f : Format) (rs : List KeptRow) (es : List Entry) : Type 0 where
+  pub head : Behind ℕ
+  pub begins : headAt len rs ≡ taken head
+  pub front : Reads HeadRows rs head
+  pub blocks : Entries f (head .value + 1) es (head .rest)
+
+pub program-read : {Q : ℕ → ℕ → Type 0} {P : ℕ → Type 0} {len : ℕ} → Table Q P len → (f : Format) → Every (λ it. Sayable Q P (it .kind)) (itemsOf f) → (rs : List KeptRow) → Placed P rs
+    → Holds Q (ProgramRows len f rs) (programAt len f rs)
+unfolding programAt
+program-read t f says rs all =
+    holds-bind (holds-with (head-read t rs all)) λ h k.
+    holds-map (λ es m. record { head = h; begins = k .0; front = k .1; blocks = m })
+    (blocks-read t f says (length (h .rest)) (h .value + 1) (h .rest) (le-refl _) (placed-behind (k .1 .took) (k .1 .split) all))

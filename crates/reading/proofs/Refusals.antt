@@ -1,0 +1,71 @@
+-- Every refusal of the fourth stage is one of its table: 8 to 14, at a kept row or at the tape's length.
+use Prim.Native.Nat.{ℕ, _≤_, _<_, _^_}
+use mathlib.Core.Path.{_≡_, refl}
+use mathlib.Core.Logic.{_⊎_, inl, inr}
+use mathlib.Core.List.{List, [], _∷_, map, List·Memᴰ, List·Memᴰ·head, List·Memᴰ·tail}
+use native.Mathlib.Omega.{arith}
+use lib.Dec.{lit≤}
+use borrow.Author.Tests.{le-leb, lt-ltb}
+use Rattle.rows.specs.Answer.{refused}
+use Rattle.rows.specs.Kept.{KeptRow}
+use Rattle.rows.specs.Passes.{Every}
+use Rattle.speeds.specs.Meaning.{speedFor, secondZero}
+use Rattle.shorthand.specs.declared.Kind.{Kind}
+use Rattle.shorthand.specs.declared.Kind.the-variants.{Plain}
+use Rattle.shorthand.specs.declared.Item.{Item}
+use Rattle.shorthand.specs.declared.Format.{Format}
+use Rattle.shorthand.specs.Facts.{Widths, Fair, none, more, Facts}
+use Rattle.reading.specs.Answers.{programAt}
+use Rattle.reading.proofs.Outcomes.{Holds, refusal, value, holds-cond, of-refused, Table, Placed, no-row, next-row}
+use Rattle.reading.proofs.ReadData.{Sayable}
+use Rattle.reading.proofs.ReadBlocks.{program-read}
+
+-- ---- the table
+
+-- the place of one of the rows
+abbrev pub AtRow : List KeptRow → ℕ → Type 0
+AtRow rs p = List·Memᴰ p (map (λ r. r .place) rs)
+
+-- the number and place of a refusal: 8 to 13 at a kept row, and 8 or 14 at the length of a tape that ends too soon
+pub data Listed (len : ℕ) (rs : List KeptRow) : ℕ → ℕ → Type 0 where
+  at-row : {n p : ℕ} → 8 ≤ n → n ≤ 13 → AtRow rs p → Listed len rs n p
+  no-head : Listed len rs 8 len
+  cut : Listed len rs 14 len
+
+module _ {len : ℕ} {rs : List KeptRow} where
+  pub listed-number : {n p : ℕ} → Listed len rs n p → (8 ≤ n) × (n ≤ 14)
+  listed-number (at-row l h a) = (l, omega arith)
+  listed-number no-head = (lit≤ tt, lit≤ tt)
+  listed-number cut = (lit≤ tt, lit≤ tt)
+
+  pub listed-place : {n p : ℕ} → Listed len rs n p → (p ≡ len) ⊎ AtRow rs p
+  listed-place (at-row l h a) = inr a
+  listed-place no-head = inl refl
+  listed-place cut = inl refl
+
+-- ---- every refusal is in it
+
+-- a code of 3 to 5 digits is refused only by 13
+speed-sayable : {Q : ℕ → Type 0} (k c : ℕ) → 3 ≤ k → k ≤ 5 → c < 10 ^ k → Q 13 → Holds (λ n p. Q n) (λ v. Unit {0}) (speedFor k c)
+unfolding speedFor
+speed-sayable k c lo hi fits q =
+    rw (le-leb 3 k lo, le-leb k 5 hi, lt-ltb c (10 ^ k) fits) (holds-cond (secondZero k c) (λ e. refusal q) (λ e. value tt))
+
+module _ (len : ℕ) (rs : List KeptRow) where
+  kind-sayable : (k : Kind) → Widths k → Sayable (Listed len rs) (AtRow rs) k
+  kind-sayable (Plain n) w = tt
+  kind-sayable (Kind.Speed k) w = λ c a h p. speed-sayable {Q = λ n. Listed len rs n a} k c (w .0) (w .1) h (at-row (lit≤ tt) (lit≤ tt) p)
+  kind-sayable (Kind.Dimension d) w = tt
+
+  fair-sayable : {its : List Item} → Fair its → Every (λ it. Sayable (Listed len rs) (AtRow rs) (it .kind)) its
+  fair-sayable none = tt
+  fair-sayable (more {it = it} a w b h) = (kind-sayable (it .kind) w, fair-sayable h)
+
+own-rows : {P : ℕ → Type 0} (rs : List KeptRow) → ((p : ℕ) → AtRow rs p → P p) → Placed P rs
+own-rows [] f = no-row
+own-rows (r ∷ rs) f = next-row (f (r .place) (List·Memᴰ·head refl)) (own-rows rs (λ p m. f p (List·Memᴰ·tail m)))
+
+pub refusals : (f : Format) → Facts f → (len : ℕ) (rs : List KeptRow) (n p : ℕ) → programAt len f rs ≡ refused n p → Listed len rs n p
+refusals f facts len rs n p e =
+    let t : Table (Listed len rs) (AtRow rs) len = record { at-row = λ m l h q a. at-row l h a; no-head = no-head; cut = cut } in
+    of-refused (program-read t f (fair-sayable len rs (facts .fair)) rs (own-rows rs (λ q m. m))) e

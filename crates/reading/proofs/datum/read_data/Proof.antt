@@ -1,0 +1,39 @@
+-- `reading::datum::read_data`: each arm rewrites by the sign that was read.
+use mathlib.Core.Path.{_∙_, sym, ap}
+use borrow.Author.Needs.{needs}
+use Rattle.reading.specs.Front.{signTold}
+use Rattle.reading.specs.Parse.{dataAt}
+use Rattle.reading.proofs.datum.read_data.Statement.{statement}
+use Rattle.reading.proofs.datum.read_data.Tie as tie
+
+read-sign-requires : tie.Need-read-sign-requires
+read-sign-requires c κs = search needs
+
+enum-known-minus : tie.Need-enum-known-minus
+enum-known-minus c = search needs
+
+read-magnitude-requires : tie.Need-read-magnitude-requires
+read-magnitude-requires c κs = search needs
+
+enum-known-r : tie.Need-enum-known-r
+enum-known-r c = search needs
+
+returns : tie.Need-returns
+unfolding dataAt
+returns c =
+    rw (sym (c .before .before .before .before .read-sign .ensures) ∙ ap (signTold _) (c .before .before .minus .given .1)) (c .read-magnitude .ensures)
+
+returns-2 : tie.Need-returns-2
+unfolding dataAt
+returns-2 c = rw (sym (c .before .before .before .read-sign .ensures) ∙ ap (signTold _) (c .before .r .given .1))
+
+pub read-data-spec : {M : Type 1} → statement M
+read-data-spec =
+    tie.close
+    (tie.spec
+    read-sign-requires
+    enum-known-minus
+    read-magnitude-requires
+    enum-known-r
+    returns
+    returns-2)

@@ -1,0 +1,36 @@
+-- `reading::walk::survey_tape`: by what the first three stages answered.
+use mathlib.Core.Path.{_≡_, _∙_, sym, ap}
+use borrow.Author.Needs.{needs}
+use Rattle.rows.specs.Answer.{told}
+use Rattle.reading.specs.Answers.{read}
+use Rattle.reading.specs.Front.{sizeOf, partIn}
+use Rattle.reading.proofs.BlockWalk.{read-refused, read-clean}
+use Rattle.reading.proofs.walk.survey_tape.Statement.{statement}
+use Rattle.reading.proofs.walk.survey_tape.Tie as tie
+
+check-requires : tie.Need-check-requires
+check-requires c κs = search needs
+
+enum-known-r : tie.Need-enum-known-r
+enum-known-r c = search needs
+
+returns : tie.Need-returns
+returns c =
+    let e = read-refused _ _ _ _ (sym (c .before .before .before .check .ensures) ∙ ap told (c .before .r .given .1)) in
+    (sym (ap sizeOf e), sym (ap (partIn _) e))
+
+enum-told : tie.Need-enum-told
+enum-told c = search needs
+
+survey-program-requires : tie.Need-survey-program-requires
+survey-program-requires c κs = search needs
+
+returns-2 : tie.Need-returns-2
+returns-2 c =
+    let e = read-clean _ _ (sym (c .before .before .before .check .ensures) ∙ ap told (c .before .enum-told .given .1)) in
+    (c .survey-program .ensures .0 ∙ sym (ap sizeOf e), c .survey-program .ensures .1 ∙ sym (ap (partIn _) e))
+
+pub survey-tape-spec : {M : Type 1} → statement M
+survey-tape-spec =
+    tie.close
+    (tie.spec check-requires enum-known-r returns enum-told survey-program-requires returns-2)

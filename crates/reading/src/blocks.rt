@@ -1,0 +1,179 @@
+// The head, and a block with its end: passed by, or gathered.
+ghost use mathlib.Core.Path.{_≡_};
+ghost use Prim.Native.Nat.{_≤_};
+ghost use lib.ListN.{length};
+ghost use Rattle.rows.specs.Answer.{valueOr};
+ghost use Rattle.shorthand.specs.Facts.{Facts};
+ghost use Rattle.reading.specs.Record.{emptyBlock};
+ghost use Rattle.reading.specs.Parse.{headAt, blockAt};
+ghost use Rattle.reading.specs.Front.{rowsAt, endTold, startTold, digitsAt, numberAt, startAt, lfOf, blockOnly};
+use crate::Block;
+use crate::BlockGathered;
+use crate::EndRead;
+use crate::FiguresRead;
+use crate::Start;
+use crate::StartRead;
+use crate::Value;
+use crate::Word;
+use crate::WordsRead;
+use crate::figures::read_end;
+use crate::figures::read_figures;
+use crate::words::gather_words;
+use crate::words::pass_words;
+use rows::Next;
+use rows::Refusal;
+use shorthand::Format;
+use shorthand::Missing;
+
+// "%" and an end.
+pub fn read_head(tape: &[u8], front: Next) -> EndRead
+    ensures { λ r. ⌜ endTold (now (tape .entry)) r ≡ headAt (length (now (tape .entry))) (rowsAt (now (tape .entry)) front) ⌝ }
+{
+    let Next::Row {
+        character,
+        place,
+        after,
+    } = front
+    else {
+        return EndRead::Refused(Refusal {
+            number: 8,
+            place: tape.len(),
+        });
+    };
+    if character == 37 {
+        read_end(tape, rows::next_kept(tape, after), 8, 8)
+    } else {
+        EndRead::Refused(Refusal { number: 8, place })
+    }
+}
+
+// The digits behind N or ":".
+fn read_number(tape: &[u8], digits: usize, skip: bool, alignment: bool, front: Next) -> StartRead
+    requires { ⌜ digits ≤ 18 ⌝ }
+    ensures { λ r. ⌜ startTold (now (tape .entry)) r ≡ digitsAt (length (now (tape .entry))) digits skip alignment (rowsAt (now (tape .entry)) front) ⌝ }
+{
+    match read_figures(tape, front, 9, Missing::Nothing, digits) {
+        FiguresRead::Number(sequence, rest) => StartRead::Is(Start {
+            skip,
+            alignment,
+            sequence,
+            front: rest,
+        }),
+        FiguresRead::Refused(r) => StartRead::Refused(r),
+    }
+}
+
+// N or ":" and its number.
+fn read_sequence(tape: &[u8], digits: usize, skip: bool, front: Next) -> StartRead
+    requires { ⌜ digits ≤ 18 ⌝ }
+    ensures { λ r. ⌜ startTold (now (tape .entry)) r ≡ numberAt (length (now (tape .entry))) digits skip (rowsAt (now (tape .entry)) front) ⌝ }
+{
+    let Next::Row {
+        character,
+        place,
+        after,
+    } = front
+    else {
+        return StartRead::Refused(Refusal {
+            number: 14,
+            place: tape.len(),
+        });
+    };
+    match character {
+        78 => read_number(tape, digits, skip, false, rows::next_kept(tape, after)),
+        58 => read_number(tape, digits, skip, true, rows::next_kept(tape, after)),
+        _ => StartRead::Refused(Refusal { number: 9, place }),
+    }
+}
+
+// "/" or not, N or ":", and the number.
+fn read_start(tape: &[u8], digits: usize, front: Next) -> StartRead
+    requires { ⌜ digits ≤ 18 ⌝ }
+    ensures { λ r. ⌜ startTold (now (tape .entry)) r ≡ startAt (length (now (tape .entry))) digits (rowsAt (now (tape .entry)) front) ⌝ }
+{
+    let Next::Row {
+        character,
+        place: _,
+        after,
+    } = front
+    else {
+        return read_sequence(tape, digits, false, front);
+    };
+    if character == 47 {
+        read_sequence(tape, digits, true, rows::next_kept(tape, after))
+    } else {
+        read_sequence(tape, digits, false, front)
+    }
+}
+
+// A block whose record nobody asked for: the place of its LF.
+pub fn pass_block(tape: &[u8], format: Format, front: Next) -> EndRead
+    requires { ⌜ Facts format ⌝ }
+    ensures { λ r. ⌜ endTold (now (tape .entry)) r ≡ lfOf (blockAt (length (now (tape .entry))) format (rowsAt (now (tape .entry)) front)) ⌝ }
+{
+    match read_start(tape, format.sequence as usize, front) {
+        StartRead::Is(s) => {
+            let next = s.front;
+            match pass_words(tape, format, next) {
+                WordsRead::Done(rest) => read_end(tape, rest, 14, 10),
+                WordsRead::Refused(r) => EndRead::Refused(r),
+            }
+        }
+        StartRead::Refused(r) => EndRead::Refused(r),
+    }
+}
+
+// What a refusal hands back.
+pub fn empty_block() -> Block
+    ensures { λ r. ⌜ r ≡ emptyBlock ⌝ }
+{
+    let blank = Word {
+        letter: 0,
+        value: Value::Number(0),
+    };
+    Block {
+        skip: false,
+        alignment: false,
+        sequence: 0,
+        count: 0,
+        words: [blank; 22],
+    }
+}
+
+fn refused_block(refusal: Refusal) -> BlockGathered
+    ensures { λ r. ⌜ (r .end ≡ EndRead.Refused refusal) × (r .block ≡ emptyBlock) ⌝ }
+{
+    BlockGathered {
+        end: EndRead::Refused(refusal),
+        block: empty_block(),
+    }
+}
+
+// A block gathered into its record, and the place of its LF.
+pub fn gather_block(tape: &[u8], format: Format, front: Next) -> BlockGathered
+    requires { ⌜ Facts format ⌝ }
+    ensures end { λ r. ⌜ endTold (now (tape .entry)) (r .end) ≡ lfOf (blockAt (length (now (tape .entry))) format (rowsAt (now (tape .entry)) front)) ⌝ }
+    ensures block { λ r. ⌜ r .block ≡ valueOr emptyBlock (blockOnly (blockAt (length (now (tape .entry))) format (rowsAt (now (tape .entry)) front))) ⌝ }
+{
+    match read_start(tape, format.sequence as usize, front) {
+        StartRead::Is(s) => {
+            let next = s.front;
+            let gathered = gather_words(tape, format, next, s.skip, s.alignment, s.sequence);
+            let words = gathered.words;
+            match words {
+                WordsRead::Done(rest) => match read_end(tape, rest, 14, 10) {
+                    EndRead::At(lf, after) => {
+                        let block = gathered.block;
+                        BlockGathered {
+                            end: EndRead::At(lf, after),
+                            block,
+                        }
+                    }
+                    EndRead::Refused(r) => refused_block(r),
+                },
+                WordsRead::Refused(r) => refused_block(r),
+            }
+        }
+        StartRead::Refused(r) => refused_block(r),
+    }
+}

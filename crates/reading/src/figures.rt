@@ -1,0 +1,192 @@
+// The small parsers over kept rows: an end, and the digits of a number.
+ghost use mathlib.Core.Path.{_≡_};
+ghost use Prim.Native.Nat.{_*_, _^_, _≤_, _<_};
+ghost use lib.ListN.{length};
+ghost use mathlib.Core.List.{[]};
+ghost use Rattle.rows.specs.Answer.{refusal};
+ghost use Rattle.reading.specs.Figures.{wrong, afterCR, ended, run, fewest, restored, figures};
+ghost use Rattle.reading.specs.Front.{rowsAt, digitFront, digitsTold, endTold, figuresTold};
+use crate::Digits;
+use crate::EndRead;
+use crate::FiguresRead;
+use rows::Next;
+use rows::Refusal;
+use shorthand::Missing;
+
+// The row found at the front, or the end of the tape, refused.
+fn refuse_front(tape: &[u8], front: Next, short: u32, other: u32) -> Refusal
+    ensures { λ r. ⌜ refusal {A = Unit {0}} r ≡ wrong (length (now (tape .entry))) short other (rowsAt (now (tape .entry)) front) ⌝ }
+{
+    match front {
+        Next::End => Refusal {
+            number: short,
+            place: tape.len(),
+        },
+        Next::Row {
+            character: _,
+            place,
+            after: _,
+        } => Refusal {
+            number: other,
+            place,
+        },
+    }
+}
+
+// The LF that must stand behind a CR.
+fn behind_cr(tape: &[u8], cr: usize, front: Next, short: u32, other: u32) -> EndRead
+    ensures { λ r. ⌜ endTold (now (tape .entry)) r ≡ afterCR (length (now (tape .entry))) short other (record { place = cr; char = 13 }) (rowsAt (now (tape .entry)) front) ⌝ }
+{
+    let Next::Row {
+        character,
+        place,
+        after,
+    } = front
+    else {
+        return EndRead::Refused(Refusal {
+            number: short,
+            place: tape.len(),
+        });
+    };
+    if character == 10 {
+        EndRead::At(place, rows::next_kept(tape, after))
+    } else {
+        EndRead::Refused(Refusal {
+            number: other,
+            place: cr,
+        })
+    }
+}
+
+// An end: LF, or CR directly before LF.
+pub fn read_end(tape: &[u8], front: Next, short: u32, other: u32) -> EndRead
+    ensures { λ r. ⌜ endTold (now (tape .entry)) r ≡ ended (length (now (tape .entry))) short other (rowsAt (now (tape .entry)) front) ⌝ }
+{
+    let Next::Row {
+        character,
+        place,
+        after,
+    } = front
+    else {
+        return EndRead::Refused(Refusal {
+            number: short,
+            place: tape.len(),
+        });
+    };
+    match character {
+        10 => EndRead::At(place, rows::next_kept(tape, after)),
+        13 => behind_cr(tape, place, rows::next_kept(tape, after), short, other),
+        _ => EndRead::Refused(Refusal {
+            number: other,
+            place,
+        }),
+    }
+}
+
+// At most so many digits.
+fn read_digits(tape: &[u8], start: Next, most: usize) -> Digits
+    requires { ⌜ most ≤ 18 ⌝ }
+    ensures { λ r. ⌜ digitsTold (now (tape .entry)) r ≡ run most 0 0 (rowsAt (now (tape .entry)) start) ⌝ }
+{
+    let mut number: u64 = 0;
+    let mut count: usize = 0;
+    let mut front = start;
+    while count < most {
+        let Next::Row {
+            character,
+            place: _,
+            after,
+        } = front
+        else {
+            return Digits {
+                number,
+                count,
+                front,
+            };
+        };
+        match character {
+            48..=57 => {}
+            _ => {
+                return Digits {
+                    number,
+                    count,
+                    front,
+                };
+            }
+        }
+        number = number * 10 + (character - 48) as u64;
+        count += 1;
+        front = rows::next_kept(tape, after);
+    }
+    Digits {
+        number,
+        count,
+        front,
+    }
+}
+
+fn is_digit_next(front: Next) -> bool
+    ensures { λ r. ⌜ r ≡ digitFront front ⌝ }
+{
+    match front {
+        Next::End => false,
+        Next::Row {
+            character,
+            place: _,
+            after: _,
+        } => 48 <= character && character <= 57,
+    }
+}
+
+// How many digits there must be.
+fn fewest_of(missing: Missing, n: usize) -> usize
+    ensures { λ r. ⌜ r ≡ fewest missing n ⌝ }
+{
+    match missing {
+        Missing::Nothing => n,
+        Missing::Leading => 1,
+        Missing::Trailing => 1,
+    }
+}
+
+// A number with so many zeros behind it.
+fn with_zeros(number: u64, zeros: usize) -> u64
+    requires { ⌜ number * 10 ^ zeros < 10 ^ 18 ⌝ }
+    ensures { λ r. ⌜ r ≡ number * 10 ^ zeros ⌝ }
+{
+    let mut v = number;
+    let mut k = zeros;
+    while 0 < k {
+        v = v * 10;
+        k -= 1;
+    }
+    v
+}
+
+// The number that the digits make once the missing zeros are restored.
+fn restore(missing: Missing, n: usize, number: u64, count: usize) -> u64
+    requires { ⌜ (count ≤ n) × (n ≤ 18) × (number < 10 ^ count) ⌝ }
+    ensures { λ r. ⌜ r ≡ restored missing n (record { number = number; count = count; rest = [] }) ⌝ }
+{
+    match missing {
+        Missing::Nothing => number,
+        Missing::Leading => number,
+        Missing::Trailing => with_zeros(number, n - count),
+    }
+}
+
+// The digits of a number of n.
+pub fn read_figures(tape: &[u8], front: Next, other: u32, missing: Missing, n: usize) -> FiguresRead
+    requires { ⌜ n ≤ 18 ⌝ }
+    ensures { λ r. ⌜ figuresTold (now (tape .entry)) r ≡ figures (length (now (tape .entry))) other missing n (rowsAt (now (tape .entry)) front) ⌝ }
+{
+    let q = read_digits(tape, front, n);
+    let rest = q.front;
+    if q.count < fewest_of(missing, n) {
+        return FiguresRead::Refused(refuse_front(tape, rest, 14, other));
+    }
+    if is_digit_next(rest) {
+        return FiguresRead::Refused(refuse_front(tape, rest, 14, other));
+    }
+    FiguresRead::Number(restore(missing, n, q.number, q.count), rest)
+}

@@ -1,0 +1,274 @@
+// Reading: the blocks of a tape under an edition and a shorthand: their number, block n, its rows; and, in `blocks`, a walk from block to block.
+ghost use mathlib.Core.Path.{_≡_};
+ghost use mathlib.Core.List.{[]};
+ghost use Rattle.rows.specs.Answer.{numberOf, placeOf, told, void, valueOr};
+ghost use Rattle.reading.specs.Record.{emptyBlock};
+ghost use Rattle.reading.specs.Answers.{nowhere, entryNumbered, counted, blockNumbered, rowsNumbered};
+ghost use Rattle.reading.specs.Front.{countTold, partOf, hasBlock};
+
+pub mod blocks;
+mod datum;
+mod figures;
+mod walk;
+mod words;
+
+use blocks::empty_block;
+use rows::Checked;
+use rows::Next;
+use rows::Refusal;
+use walk::fetch_tape;
+use walk::survey_tape;
+
+// What a word says: a plain number, a dimension in the last decimal place, or a speed in ten-millionths.
+pub enum Value {
+    Number(u64),
+    Dimension(i64),
+    Speed(u64),
+}
+
+pub struct Word {
+    pub letter: u8,
+    pub value: Value,
+}
+
+// A block: optional skip, alignment, its sequence number and its words. Places past the count hold letter 0 and plain number 0.
+pub struct Block {
+    pub skip: bool,
+    pub alignment: bool,
+    pub sequence: u64,
+    pub count: usize,
+    pub words: [Word; 22],
+}
+
+// ---- what the parsers answer: a value with the next kept row, or a refusal
+
+pub enum EndRead {
+    At(usize, Next),
+    Refused(Refusal),
+}
+
+pub struct Digits {
+    pub number: u64,
+    pub count: usize,
+    pub front: Next,
+}
+
+pub enum FiguresRead {
+    Number(u64, Next),
+    Refused(Refusal),
+}
+
+pub enum SignRead {
+    Minus(bool, Next),
+    Refused(Refusal),
+}
+
+pub enum Meant {
+    Is(Value),
+    Refused(Refusal),
+}
+
+pub enum DataRead {
+    Is(Value, Next),
+    Refused(Refusal),
+}
+
+pub enum WordRead {
+    Is(Word, Next),
+    Refused(Refusal),
+}
+
+// How an item stands: it can't be reached, its word is left out, or its address is at a place.
+pub enum Reach {
+    Stops,
+    Out(Next),
+    At(usize, usize),
+}
+
+pub enum WordsRead {
+    Done(Next),
+    Refused(Refusal),
+}
+
+pub struct Gathered {
+    pub words: WordsRead,
+    pub block: Block,
+}
+
+// What a block begins with.
+pub struct Start {
+    pub skip: bool,
+    pub alignment: bool,
+    pub sequence: u64,
+    pub front: Next,
+}
+
+pub enum StartRead {
+    Is(Start),
+    Refused(Refusal),
+}
+
+// A block and the place of its LF.
+pub struct BlockGathered {
+    pub end: EndRead,
+    pub block: Block,
+}
+
+// The number of blocks.
+pub enum Counted {
+    Blocks(usize),
+    Refused(Refusal),
+}
+
+// Where the rows of a block stand: from a row up to, and without, another.
+pub struct Part {
+    pub from: usize,
+    pub to: usize,
+}
+
+// The number of blocks, and where the rows of one of them stand.
+pub struct Survey {
+    pub count: Counted,
+    pub part: Part,
+}
+
+// The number of blocks, and the record of one of them.
+pub struct Fetch {
+    pub count: Counted,
+    pub block: Block,
+}
+
+// Block n, or why there is none.
+pub struct BlockAnswer {
+    pub outcome: Checked,
+    pub block: Block,
+}
+
+// Where the rows of block n stand, or why there are none.
+pub struct PartAnswer {
+    pub outcome: Checked,
+    pub part: Part,
+}
+
+// Whether block n is among the count.
+fn within(count: Counted, n: usize) -> Checked
+    ensures { λ r. ⌜ told r ≡ hasBlock n (countTold count) ⌝ }
+{
+    match count {
+        Counted::Blocks(c) => {
+            if n < c {
+                Checked::Clean
+            } else {
+                Checked::Refused(Refusal {
+                    number: 15,
+                    place: c,
+                })
+            }
+        }
+        Counted::Refused(r) => Checked::Refused(r),
+    }
+}
+
+// The number of blocks of a tape.
+pub fn count_blocks(edition: u32, text: &[u8], tape: &[u8]) -> Counted
+    ensures { λ r. ⌜ countTold r ≡ counted edition (now (text .entry)) (now (tape .entry)) ⌝ }
+{
+    let parsed = shorthand::parse(edition, text);
+    let format = parsed.format;
+    let outcome = parsed.outcome;
+    match outcome {
+        Checked::Clean => {
+            let survey = survey_tape(tape, format, 0);
+            let count = survey.count;
+            count
+        }
+        Checked::Refused(r) => Counted::Refused(r),
+    }
+}
+
+// Block n of a tape, from 0.
+pub fn read_block(edition: u32, text: &[u8], tape: &[u8], n: usize) -> BlockAnswer
+    ensures outcome { λ r. ⌜ told (r .outcome) ≡ void (blockNumbered edition (now (text .entry)) (now (tape .entry)) n) ⌝ }
+    ensures block { λ r. ⌜ r .block ≡ valueOr emptyBlock (blockNumbered edition (now (text .entry)) (now (tape .entry)) n) ⌝ }
+{
+    let parsed = shorthand::parse(edition, text);
+    let format = parsed.format;
+    let outcome = parsed.outcome;
+    if let Checked::Refused(r) = outcome {
+        return BlockAnswer {
+            outcome: Checked::Refused(r),
+            block: empty_block(),
+        };
+    }
+    let fetch = fetch_tape(tape, format, n);
+    let block = fetch.block;
+    let count = fetch.count;
+    BlockAnswer {
+        outcome: within(count, n),
+        block,
+    }
+}
+
+// Where the rows of block n stand.
+fn find_part(edition: u32, text: &[u8], tape: &[u8], n: usize) -> PartAnswer
+    ensures outcome { λ r. ⌜ told (r .outcome) ≡ void (entryNumbered edition (now (text .entry)) (now (tape .entry)) n) ⌝ }
+    ensures part { λ r. ⌜ r .part ≡ partOf (valueOr nowhere (entryNumbered edition (now (text .entry)) (now (tape .entry)) n)) ⌝ }
+{
+    let parsed = shorthand::parse(edition, text);
+    let format = parsed.format;
+    let outcome = parsed.outcome;
+    if let Checked::Refused(r) = outcome {
+        return PartAnswer {
+            outcome: Checked::Refused(r),
+            part: Part { from: 0, to: 0 },
+        };
+    }
+    let survey = survey_tape(tape, format, n);
+    let part = survey.part;
+    let count = survey.count;
+    PartAnswer {
+        outcome: within(count, n),
+        part,
+    }
+}
+
+fn number_of(outcome: Checked) -> u32
+    ensures { λ r. ⌜ r ≡ numberOf (told outcome) ⌝ }
+{
+    match outcome {
+        Checked::Clean => 0,
+        Checked::Refused(r) => r.number,
+    }
+}
+
+fn place_of(outcome: Checked) -> usize
+    ensures { λ r. ⌜ r ≡ placeOf (told outcome) ⌝ }
+{
+    match outcome {
+        Checked::Clean => 0,
+        Checked::Refused(r) => r.place,
+    }
+}
+
+// The rows of block n, from just after the end before it to its own LF, as a part of the caller's own tape.
+pub fn block_rows<'a, 'b>(
+    edition: u32,
+    text: &[u8],
+    tape: &'a [u8],
+    n: usize,
+    number: &'b mut u32,
+    place: &'b mut usize,
+) -> &'a [u8]
+    ensures number { λ r. ⌜ now (number .exit) ≡ numberOf (rowsNumbered edition (now (text .entry)) (now (tape .entry)) n) ⌝ }
+    ensures place { λ r. ⌜ now (place .exit) ≡ placeOf (rowsNumbered edition (now (text .entry)) (now (tape .entry)) n) ⌝ }
+    ensures rows { λ r. ⌜ now r ≡ valueOr [] (rowsNumbered edition (now (text .entry)) (now (tape .entry)) n) ⌝ }
+{
+    let found = find_part(edition, text, tape, n);
+    let outcome = found.outcome;
+    let part = found.part;
+    let from = part.from;
+    let to = part.to;
+    *number = number_of(outcome);
+    *place = place_of(outcome);
+    &tape[from..to]
+}
