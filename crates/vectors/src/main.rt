@@ -1,6 +1,7 @@
 // Runs the cases on standard input, a line each, and writes each with what the library answers.
 // The letter before the first space chooses what is asked; the file stdin says which there are. The proofs here are of safety alone.
 
+mod block_cases;
 mod row_cases;
 mod shorthand_cases;
 mod speed_cases;
@@ -26,6 +27,9 @@ fn answer_case(asked: u8, rest: &[u8], tape: &mut [u8], blank: &[u8]) {
         b'C' => speed_cases::code(rest),
         b'X' => speed_cases::exact(rest),
         b'F' => shorthand_cases::format(rest),
+        b'B' => block_cases::count(rest, tape),
+        b'W' => block_cases::block(rest, tape),
+        b'P' => block_cases::part(rest, tape),
         _ => {}
     }
 }

@@ -42,6 +42,18 @@ pub fn second(text: &[u8]) -> &[u8] {
     &text[0..0]
 }
 
+// What stands before the first space.
+pub fn upto_space(text: &[u8]) -> &[u8] {
+    let mut i = 0;
+    while i < text.len() {
+        if text[i] == b' ' {
+            return &text[0..i];
+        }
+        i += 1;
+    }
+    text
+}
+
 fn digit_of(c: u8) -> u64
     ensures { λ r. ⌜ r ≤ 9 ⌝ }
 {
