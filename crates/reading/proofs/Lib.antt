@@ -1,27 +1,37 @@
 -- Laws of the crate's definitions, each file named for its subject.
+
+-- the definitions on cases, and what every refusal is
 pub mod Cases
-pub mod Fetched
-pub mod DigitRows
+pub mod Outcomes
+pub mod Places
+pub mod Refusals
+
+-- complete: the rows of a program are taken as it
 pub mod RowsAhead
+pub mod DigitRows
 pub mod WordTakes
 pub mod WordsTake
 pub mod BlockTakes
 pub mod Complete
-pub mod Outcomes
+
+-- sound: what is taken stands as its rows
 pub mod Runs
 pub mod ReadData
 pub mod ReadWords
 pub mod ReadBlocks
 pub mod Sound
-pub mod Places
-pub mod Refusals
-pub mod ItemSteps
-pub mod Gathering
+
+-- the bridge
+pub mod Programs
+
+-- for the functions: rows in hand, digits, words, blocks, the whole walk
+pub mod Fetched
 pub mod DigitRun
 pub mod Signs
 pub mod Widths
 pub mod Wrong
+pub mod ItemSteps
+pub mod Gathering
 pub mod Started
 pub mod BlockWalk
 pub mod Numbered
-pub mod Programs
