@@ -1,74 +1,89 @@
 -- Cases of document 01 and edges of its refusal table, computed by the definitions, as one statement.
-use Prim.Native.Nat.{ℕ}
+use Prim.Native.Nat.{ℕ, _+_}
+use Prim.Native.String.{String}
 use mathlib.Core.Path.{_≡_, refl}
-use mathlib.Core.List.{List, [], _∷_, map}
+use mathlib.Core.Bool.{cond}
+use mathlib.Core.List.{List, [], _∷_, _++_, map}
 use lib.Count.{ones}
-use Rattle.rows.specs.Answer.{Answer, numberOf, placeOf, valueOr}
-use Rattle.rows.specs.Row.{entry}
+use Rattle.rows.specs.Answer.{Answer, taken, refused}
+use Rattle.rows.specs.Row.{even, entry}
 use Rattle.rows.specs.Stages.{lowest, scan, judged}
 use Rattle.rows.specs.Kept.{keptFrom}
 use Rattle.speeds.specs.Meaning.{meaning, speedFor}
 use Rattle.shorthand.specs.Edition.{rank, due, anyDue}
 use Rattle.shorthand.specs.Stand.{digitsOf, afterDigits, stand, standN}
 use Rattle.shorthand.specs.Parse.{itemsFrom, parsed}
+use Rattle.shorthand.proofs.Cases.{bytes}
 use Rattle.reading.specs.Figures.{run, figures}
 use Rattle.reading.specs.Parse.{dataAt, wordsAt, blockAt, headAt, blocksAt}
 use Rattle.reading.specs.Answers.{programAt, read, readUnder, counted}
 
 pub record Case : Type 0 where
   pub edition : ℕ
-  pub shorthand : List ℕ
-  pub tape : List ℕ
-  pub number : ℕ
-  pub place : ℕ
-  pub count : ℕ
+  pub shorthand : String
+  pub tape : String
+  pub answer : Answer ℕ
 
-abbrev pub cases : List Case
-cases =
-    record { edition = 1057; shorthand = 78 ∷ 51 ∷ 46 ∷ 71 ∷ 50 ∷ 46 ∷ 88 ∷ 43 ∷ 52 ∷ 50 ∷ 46 ∷ 70 ∷ 51 ∷ 46 ∷ 77 ∷ 50 ∷ 42 ∷ []; tape = 165 ∷ 10 ∷ 78 ∷ 48 ∷ 48 ∷ 177 ∷ 9 ∷ 71 ∷ 48 ∷ 177 ∷ 9 ∷ 216 ∷ 43 ∷ 48 ∷ 177 ∷ 178 ∷ 53 ∷ 48 ∷ 48 ∷ 9 ∷ 198 ∷ 54 ∷ 177 ∷ 53 ∷ 10 ∷ 175 ∷ 78 ∷ 48 ∷ 48 ∷ 178 ∷ 9 ∷ 9 ∷ 216 ∷ 45 ∷ 48 ∷ 48 ∷ 48 ∷ 178 ∷ 53 ∷ 48 ∷ 10 ∷ []; number = 0; place = 0; count = 2 } ∷
-    record { edition = 1057; shorthand = 78 ∷ 51 ∷ 46 ∷ 71 ∷ 50 ∷ 46 ∷ 88 ∷ 43 ∷ 52 ∷ 50 ∷ 46 ∷ 70 ∷ 51 ∷ 46 ∷ 77 ∷ 50 ∷ 42 ∷ []; tape = []; number = 8; place = 0; count = 0 } ∷
-    record { edition = 1057; shorthand = 78 ∷ 51 ∷ 46 ∷ 71 ∷ 50 ∷ 46 ∷ 88 ∷ 43 ∷ 52 ∷ 50 ∷ 46 ∷ 70 ∷ 51 ∷ 46 ∷ 77 ∷ 50 ∷ 42 ∷ []; tape = 165 ∷ 10 ∷ []; number = 0; place = 0; count = 0 } ∷
-    record { edition = 1057; shorthand = 78 ∷ 51 ∷ 46 ∷ 71 ∷ 50 ∷ 46 ∷ 88 ∷ 43 ∷ 52 ∷ 50 ∷ 46 ∷ 70 ∷ 51 ∷ 46 ∷ 77 ∷ 50 ∷ 42 ∷ []; tape = 165 ∷ 141 ∷ 40 ∷ 210 ∷ 169 ∷ 10 ∷ 78 ∷ 48 ∷ 48 ∷ 177 ∷ 10 ∷ []; number = 0; place = 0; count = 1 } ∷
-    record { edition = 1057; shorthand = 78 ∷ 51 ∷ 46 ∷ 71 ∷ 50 ∷ 46 ∷ 88 ∷ 43 ∷ 52 ∷ 50 ∷ 46 ∷ 70 ∷ 51 ∷ 46 ∷ 77 ∷ 50 ∷ 42 ∷ []; tape = 165 ∷ []; number = 8; place = 1; count = 0 } ∷
-    record { edition = 1057; shorthand = 78 ∷ 51 ∷ 46 ∷ 71 ∷ 50 ∷ 46 ∷ 88 ∷ 43 ∷ 52 ∷ 50 ∷ 46 ∷ 70 ∷ 51 ∷ 46 ∷ 77 ∷ 50 ∷ 42 ∷ []; tape = 78 ∷ []; number = 8; place = 0; count = 0 } ∷
-    record { edition = 1057; shorthand = 78 ∷ 51 ∷ 46 ∷ 71 ∷ 50 ∷ 46 ∷ 88 ∷ 43 ∷ 52 ∷ 50 ∷ 46 ∷ 70 ∷ 51 ∷ 46 ∷ 77 ∷ 50 ∷ 42 ∷ []; tape = 165 ∷ 78 ∷ []; number = 8; place = 1; count = 0 } ∷
-    record { edition = 1057; shorthand = 78 ∷ 51 ∷ 46 ∷ 71 ∷ 50 ∷ 46 ∷ 88 ∷ 43 ∷ 52 ∷ 50 ∷ 46 ∷ 70 ∷ 51 ∷ 46 ∷ 77 ∷ 50 ∷ 42 ∷ []; tape = 165 ∷ 141 ∷ []; number = 8; place = 2; count = 0 } ∷
-    record { edition = 1057; shorthand = 78 ∷ 51 ∷ 46 ∷ 71 ∷ 50 ∷ 46 ∷ 88 ∷ 43 ∷ 52 ∷ 50 ∷ 46 ∷ 70 ∷ 51 ∷ 46 ∷ 77 ∷ 50 ∷ 42 ∷ []; tape = 165 ∷ 141 ∷ 78 ∷ []; number = 8; place = 1; count = 0 } ∷
-    record { edition = 1057; shorthand = 78 ∷ 51 ∷ 46 ∷ 71 ∷ 50 ∷ 46 ∷ 88 ∷ 43 ∷ 52 ∷ 50 ∷ 46 ∷ 70 ∷ 51 ∷ 46 ∷ 77 ∷ 50 ∷ 42 ∷ []; tape = 165 ∷ 10 ∷ 78 ∷ 48 ∷ 177 ∷ 10 ∷ []; number = 9; place = 5; count = 0 } ∷
-    record { edition = 1057; shorthand = 78 ∷ 51 ∷ 46 ∷ 71 ∷ 50 ∷ 46 ∷ 88 ∷ 43 ∷ 52 ∷ 50 ∷ 46 ∷ 70 ∷ 51 ∷ 46 ∷ 77 ∷ 50 ∷ 42 ∷ []; tape = 165 ∷ 10 ∷ 78 ∷ 48 ∷ 48 ∷ 177 ∷ 177 ∷ 10 ∷ []; number = 9; place = 6; count = 0 } ∷
-    record { edition = 1057; shorthand = 78 ∷ 51 ∷ 46 ∷ 71 ∷ 50 ∷ 46 ∷ 88 ∷ 43 ∷ 52 ∷ 50 ∷ 46 ∷ 70 ∷ 51 ∷ 46 ∷ 77 ∷ 50 ∷ 42 ∷ []; tape = 165 ∷ 10 ∷ 216 ∷ 48 ∷ 48 ∷ 177 ∷ 10 ∷ []; number = 9; place = 2; count = 0 } ∷
-    record { edition = 1057; shorthand = 78 ∷ 51 ∷ 46 ∷ 71 ∷ 50 ∷ 46 ∷ 88 ∷ 43 ∷ 52 ∷ 50 ∷ 46 ∷ 70 ∷ 51 ∷ 46 ∷ 77 ∷ 50 ∷ 42 ∷ []; tape = 165 ∷ 10 ∷ 175 ∷ 10 ∷ []; number = 9; place = 3; count = 0 } ∷
-    record { edition = 1057; shorthand = 78 ∷ 51 ∷ 46 ∷ 71 ∷ 50 ∷ 46 ∷ 88 ∷ 43 ∷ 52 ∷ 50 ∷ 46 ∷ 70 ∷ 51 ∷ 46 ∷ 77 ∷ 50 ∷ 42 ∷ []; tape = 165 ∷ 10 ∷ 175 ∷ []; number = 14; place = 3; count = 0 } ∷
-    record { edition = 1057; shorthand = 78 ∷ 51 ∷ 46 ∷ 71 ∷ 50 ∷ 46 ∷ 88 ∷ 43 ∷ 52 ∷ 50 ∷ 46 ∷ 70 ∷ 51 ∷ 46 ∷ 77 ∷ 50 ∷ 42 ∷ []; tape = 165 ∷ 10 ∷ 78 ∷ 48 ∷ []; number = 14; place = 4; count = 0 } ∷
-    record { edition = 1057; shorthand = 78 ∷ 51 ∷ 46 ∷ 71 ∷ 50 ∷ 46 ∷ 88 ∷ 43 ∷ 52 ∷ 50 ∷ 46 ∷ 70 ∷ 51 ∷ 46 ∷ 77 ∷ 50 ∷ 42 ∷ []; tape = 165 ∷ 10 ∷ 78 ∷ 48 ∷ 48 ∷ 177 ∷ 71 ∷ 48 ∷ 177 ∷ 10 ∷ []; number = 10; place = 6; count = 0 } ∷
-    record { edition = 1057; shorthand = 78 ∷ 51 ∷ 46 ∷ 71 ∷ 50 ∷ 46 ∷ 88 ∷ 43 ∷ 52 ∷ 50 ∷ 46 ∷ 70 ∷ 51 ∷ 46 ∷ 77 ∷ 50 ∷ 42 ∷ []; tape = 165 ∷ 10 ∷ 78 ∷ 48 ∷ 48 ∷ 177 ∷ 9 ∷ 216 ∷ 43 ∷ 48 ∷ 177 ∷ 178 ∷ 53 ∷ 48 ∷ 48 ∷ 10 ∷ []; number = 10; place = 7; count = 0 } ∷
-    record { edition = 1057; shorthand = 78 ∷ 51 ∷ 46 ∷ 71 ∷ 50 ∷ 46 ∷ 88 ∷ 43 ∷ 52 ∷ 50 ∷ 46 ∷ 70 ∷ 51 ∷ 46 ∷ 77 ∷ 50 ∷ 42 ∷ []; tape = 165 ∷ 10 ∷ 78 ∷ 48 ∷ 48 ∷ 177 ∷ 9 ∷ 9 ∷ 9 ∷ 9 ∷ 9 ∷ 10 ∷ []; number = 10; place = 10; count = 0 } ∷
-    record { edition = 1057; shorthand = 78 ∷ 51 ∷ 46 ∷ 71 ∷ 50 ∷ 46 ∷ 88 ∷ 43 ∷ 52 ∷ 50 ∷ 46 ∷ 70 ∷ 51 ∷ 46 ∷ 77 ∷ 50 ∷ 42 ∷ []; tape = 165 ∷ 10 ∷ 78 ∷ 48 ∷ 48 ∷ 177 ∷ 9 ∷ 9 ∷ 9 ∷ 9 ∷ 10 ∷ []; number = 0; place = 0; count = 1 } ∷
-    record { edition = 1057; shorthand = 78 ∷ 51 ∷ 46 ∷ 71 ∷ 50 ∷ 46 ∷ 88 ∷ 43 ∷ 52 ∷ 50 ∷ 46 ∷ 70 ∷ 51 ∷ 46 ∷ 77 ∷ 50 ∷ 42 ∷ []; tape = 165 ∷ 10 ∷ 78 ∷ 48 ∷ 48 ∷ 177 ∷ 141 ∷ 78 ∷ []; number = 10; place = 6; count = 0 } ∷
-    record { edition = 1057; shorthand = 78 ∷ 51 ∷ 46 ∷ 71 ∷ 50 ∷ 46 ∷ 88 ∷ 43 ∷ 52 ∷ 50 ∷ 46 ∷ 70 ∷ 51 ∷ 46 ∷ 77 ∷ 50 ∷ 42 ∷ []; tape = 165 ∷ 10 ∷ 78 ∷ 48 ∷ 48 ∷ 177 ∷ 141 ∷ []; number = 14; place = 7; count = 0 } ∷
-    record { edition = 1057; shorthand = 78 ∷ 51 ∷ 46 ∷ 71 ∷ 50 ∷ 46 ∷ 88 ∷ 43 ∷ 52 ∷ 50 ∷ 46 ∷ 70 ∷ 51 ∷ 46 ∷ 77 ∷ 50 ∷ 42 ∷ []; tape = 165 ∷ 10 ∷ 78 ∷ 48 ∷ 48 ∷ 177 ∷ 9 ∷ 71 ∷ 177 ∷ 10 ∷ []; number = 11; place = 9; count = 0 } ∷
-    record { edition = 1057; shorthand = 78 ∷ 51 ∷ 46 ∷ 71 ∷ 50 ∷ 46 ∷ 88 ∷ 43 ∷ 52 ∷ 50 ∷ 46 ∷ 70 ∷ 51 ∷ 46 ∷ 77 ∷ 50 ∷ 42 ∷ []; tape = 165 ∷ 10 ∷ 78 ∷ 48 ∷ 48 ∷ 177 ∷ 9 ∷ 71 ∷ 48 ∷ 177 ∷ 178 ∷ 10 ∷ []; number = 11; place = 10; count = 0 } ∷
-    record { edition = 1057; shorthand = 78 ∷ 51 ∷ 46 ∷ 71 ∷ 50 ∷ 46 ∷ 88 ∷ 43 ∷ 52 ∷ 50 ∷ 46 ∷ 70 ∷ 51 ∷ 46 ∷ 77 ∷ 50 ∷ 42 ∷ []; tape = 165 ∷ 10 ∷ 78 ∷ 48 ∷ 48 ∷ 177 ∷ 9 ∷ 71 ∷ 43 ∷ 177 ∷ 10 ∷ []; number = 12; place = 8; count = 0 } ∷
-    record { edition = 1057; shorthand = 78 ∷ 51 ∷ 46 ∷ 71 ∷ 50 ∷ 46 ∷ 88 ∷ 43 ∷ 52 ∷ 50 ∷ 46 ∷ 70 ∷ 51 ∷ 46 ∷ 77 ∷ 50 ∷ 42 ∷ []; tape = 165 ∷ 10 ∷ 78 ∷ 48 ∷ 48 ∷ 177 ∷ 9 ∷ 9 ∷ 216 ∷ 48 ∷ 177 ∷ 178 ∷ 53 ∷ 48 ∷ 48 ∷ 10 ∷ []; number = 12; place = 9; count = 0 } ∷
-    record { edition = 1057; shorthand = 78 ∷ 51 ∷ 46 ∷ 71 ∷ 50 ∷ 46 ∷ 88 ∷ 43 ∷ 52 ∷ 50 ∷ 46 ∷ 70 ∷ 51 ∷ 46 ∷ 77 ∷ 50 ∷ 42 ∷ []; tape = 165 ∷ 10 ∷ 78 ∷ 48 ∷ 48 ∷ 177 ∷ 9 ∷ 9 ∷ 216 ∷ []; number = 14; place = 9; count = 0 } ∷
-    record { edition = 1057; shorthand = 78 ∷ 51 ∷ 46 ∷ 71 ∷ 50 ∷ 46 ∷ 88 ∷ 43 ∷ 52 ∷ 50 ∷ 46 ∷ 70 ∷ 51 ∷ 46 ∷ 77 ∷ 50 ∷ 42 ∷ []; tape = 165 ∷ 10 ∷ 78 ∷ 48 ∷ 48 ∷ 177 ∷ 9 ∷ 9 ∷ 216 ∷ 43 ∷ 177 ∷ 178 ∷ 53 ∷ 48 ∷ 48 ∷ 10 ∷ []; number = 11; place = 15; count = 0 } ∷
-    record { edition = 1057; shorthand = 78 ∷ 51 ∷ 46 ∷ 71 ∷ 50 ∷ 46 ∷ 88 ∷ 43 ∷ 52 ∷ 50 ∷ 46 ∷ 70 ∷ 51 ∷ 46 ∷ 77 ∷ 50 ∷ 42 ∷ []; tape = 165 ∷ 10 ∷ 78 ∷ 48 ∷ 48 ∷ 177 ∷ 9 ∷ 9 ∷ 216 ∷ 43 ∷ 48 ∷ 177 ∷ 178 ∷ 53 ∷ 48 ∷ 48 ∷ 48 ∷ 10 ∷ []; number = 11; place = 16; count = 0 } ∷
-    record { edition = 1057; shorthand = 78 ∷ 51 ∷ 46 ∷ 71 ∷ 50 ∷ 46 ∷ 88 ∷ 43 ∷ 52 ∷ 50 ∷ 46 ∷ 70 ∷ 51 ∷ 46 ∷ 77 ∷ 50 ∷ 42 ∷ []; tape = 165 ∷ 10 ∷ 78 ∷ 48 ∷ 48 ∷ 177 ∷ 9 ∷ 9 ∷ 216 ∷ 43 ∷ 43 ∷ 177 ∷ 178 ∷ 53 ∷ 48 ∷ 48 ∷ 10 ∷ []; number = 11; place = 10; count = 0 } ∷
-    record { edition = 1057; shorthand = 78 ∷ 51 ∷ 46 ∷ 71 ∷ 50 ∷ 46 ∷ 88 ∷ 43 ∷ 52 ∷ 50 ∷ 46 ∷ 70 ∷ 51 ∷ 46 ∷ 77 ∷ 50 ∷ 42 ∷ []; tape = 165 ∷ 10 ∷ 78 ∷ 48 ∷ 48 ∷ 177 ∷ 9 ∷ 9 ∷ 9 ∷ 198 ∷ 54 ∷ 48 ∷ 53 ∷ 10 ∷ []; number = 13; place = 9; count = 0 } ∷
-    record { edition = 1057; shorthand = 78 ∷ 51 ∷ 46 ∷ 71 ∷ 50 ∷ 46 ∷ 88 ∷ 43 ∷ 52 ∷ 50 ∷ 46 ∷ 70 ∷ 51 ∷ 46 ∷ 77 ∷ 50 ∷ 42 ∷ []; tape = 165 ∷ 10 ∷ 78 ∷ 48 ∷ 48 ∷ 177 ∷ 9 ∷ 9 ∷ 9 ∷ 198 ∷ 54 ∷ 48 ∷ 53 ∷ 53 ∷ 10 ∷ []; number = 11; place = 13; count = 0 } ∷
-    record { edition = 1057; shorthand = 78 ∷ 51 ∷ 46 ∷ 71 ∷ 50 ∷ 46 ∷ 88 ∷ 43 ∷ 52 ∷ 50 ∷ 46 ∷ 70 ∷ 51 ∷ 46 ∷ 77 ∷ 50 ∷ 42 ∷ []; tape = 165 ∷ 10 ∷ 78 ∷ 48 ∷ 48 ∷ 177 ∷ 9 ∷ 9 ∷ 9 ∷ 198 ∷ 54 ∷ 48 ∷ 53 ∷ []; number = 13; place = 9; count = 0 } ∷
-    record { edition = 1057; shorthand = 78 ∷ 51 ∷ 46 ∷ 71 ∷ 50 ∷ 46 ∷ 88 ∷ 43 ∷ 52 ∷ 50 ∷ 46 ∷ 70 ∷ 51 ∷ 46 ∷ 77 ∷ 50 ∷ 42 ∷ []; tape = 165 ∷ 10 ∷ 78 ∷ 48 ∷ 48 ∷ 177 ∷ 9 ∷ 9 ∷ 9 ∷ 198 ∷ 54 ∷ 48 ∷ []; number = 14; place = 12; count = 0 } ∷
-    record { edition = 1057; shorthand = 78 ∷ 51 ∷ 46 ∷ 71 ∷ 50 ∷ 46 ∷ 88 ∷ 43 ∷ 52 ∷ 50 ∷ 46 ∷ 70 ∷ 51 ∷ 46 ∷ 77 ∷ 50 ∷ 42 ∷ []; tape = 165 ∷ 10 ∷ 78 ∷ 48 ∷ 48 ∷ 177 ∷ []; number = 14; place = 6; count = 0 } ∷
-    record { edition = 2539; shorthand = 78 ∷ 51 ∷ 88 ∷ 43 ∷ 48 ∷ 52 ∷ 50 ∷ 42 ∷ []; tape = 165 ∷ 10 ∷ 78 ∷ 48 ∷ 48 ∷ 177 ∷ 216 ∷ 43 ∷ 53 ∷ 10 ∷ []; number = 0; place = 0; count = 1 } ∷
-    record { edition = 2539; shorthand = 78 ∷ 51 ∷ 88 ∷ 43 ∷ 52 ∷ 50 ∷ 48 ∷ 42 ∷ []; tape = 165 ∷ 10 ∷ 78 ∷ 48 ∷ 48 ∷ 177 ∷ 216 ∷ 53 ∷ 10 ∷ []; number = 0; place = 0; count = 1 } ∷
-    record { edition = 2539; shorthand = 78 ∷ 51 ∷ 88 ∷ 43 ∷ 52 ∷ 50 ∷ 48 ∷ 42 ∷ []; tape = 165 ∷ 10 ∷ 78 ∷ 48 ∷ 48 ∷ 177 ∷ 216 ∷ 10 ∷ []; number = 11; place = 7; count = 0 } ∷
-    record { edition = 2539; shorthand = 78 ∷ 51 ∷ 88 ∷ 52 ∷ 50 ∷ 42 ∷ []; tape = 165 ∷ 10 ∷ 78 ∷ 48 ∷ 48 ∷ 177 ∷ 216 ∷ 43 ∷ 48 ∷ 48 ∷ 48 ∷ 48 ∷ 48 ∷ 177 ∷ 10 ∷ []; number = 12; place = 7; count = 0 } ∷
-    record { edition = 2539; shorthand = 78 ∷ 51 ∷ 88 ∷ 43 ∷ 52 ∷ 50 ∷ 89 ∷ 43 ∷ 52 ∷ 50 ∷ 42 ∷ []; tape = 165 ∷ 10 ∷ 78 ∷ 48 ∷ 48 ∷ 177 ∷ 89 ∷ 48 ∷ 48 ∷ 48 ∷ 48 ∷ 48 ∷ 177 ∷ 216 ∷ 48 ∷ 48 ∷ 48 ∷ 48 ∷ 48 ∷ 177 ∷ 10 ∷ []; number = 10; place = 13; count = 0 } ∷
-    record { edition = 2539; shorthand = 78 ∷ 51 ∷ 42 ∷ []; tape = 165 ∷ 10 ∷ 78 ∷ 48 ∷ 48 ∷ 177 ∷ 10 ∷ 58 ∷ 48 ∷ 48 ∷ 178 ∷ 10 ∷ 175 ∷ 78 ∷ 48 ∷ 48 ∷ 51 ∷ 10 ∷ []; number = 0; place = 0; count = 3 } ∷ []
+abbrev case : ℕ → String → String → Answer ℕ → Case
+case e s t a = record { edition = e; shorthand = s; tape = t; answer = a }
 
-abbrev answered : Case → ℕ × ℕ × ℕ
-answered c = let a = counted (c .edition) (c .shorthand) (c .tape) in (numberOf a, placeOf a, valueOr 0 a)
+-- a text as rows: the eighth hole where the others are odd
+abbrev pub rows : String → List ℕ
+rows s = map (λ c. cond (even c) c (c + 128)) (bytes s)
 
-pub cases-right : map answered cases ≡ map (λ c. (c .number, c .place, c .count)) cases
+-- document 01's shorthand with tabs, in 1057
+abbrev tabbed : String → Answer ℕ → Case
+tabbed t a = case 1057 "N3.G2.X+42.F3.M2*" t a
+
+abbrev withTabs : List Case
+withTabs =
+    tabbed "%\nN001\tG01\tX+012500\tF615\n/N002\t\tX-000250\n" (taken 2)
+    ∷ tabbed "" (refused 8 0)
+    ∷ tabbed "%\n" (taken 0)
+    ∷ tabbed "%\r(R)\nN001\n" (taken 1)
+    ∷ tabbed "%" (refused 8 1)
+    ∷ tabbed "N" (refused 8 0)
+    ∷ tabbed "%N" (refused 8 1)
+    ∷ tabbed "%\r" (refused 8 2)
+    ∷ tabbed "%\rN" (refused 8 1)
+    ∷ tabbed "%\nN01\n" (refused 9 5)
+    ∷ tabbed "%\nN0011\n" (refused 9 6)
+    ∷ tabbed "%\nX001\n" (refused 9 2)
+    ∷ tabbed "%\n/\n" (refused 9 3)
+    ∷ tabbed "%\n/" (refused 14 3)
+    ∷ tabbed "%\nN0" (refused 14 4)
+    ∷ tabbed "%\nN001G01\n" (refused 10 6)
+    ∷ tabbed "%\nN001\tX+012500\n" (refused 10 7)
+    ∷ tabbed "%\nN001\t\t\t\t\t\n" (refused 10 10)
+    ∷ tabbed "%\nN001\t\t\t\t\n" (taken 1)
+    ∷ tabbed "%\nN001\rN" (refused 10 6)
+    ∷ tabbed "%\nN001\r" (refused 14 7)
+    ∷ tabbed "%\nN001\tG1\n" (refused 11 9)
+    ∷ tabbed "%\nN001\tG012\n" (refused 11 10)
+    ∷ tabbed "%\nN001\tG+1\n" (refused 12 8)
+    ∷ tabbed "%\nN001\t\tX012500\n" (refused 12 9)
+    ∷ tabbed "%\nN001\t\tX" (refused 14 9)
+    ∷ tabbed "%\nN001\t\tX+12500\n" (refused 11 15)
+    ∷ tabbed "%\nN001\t\tX+0125000\n" (refused 11 16)
+    ∷ tabbed "%\nN001\t\tX++12500\n" (refused 11 10)
+    ∷ tabbed "%\nN001\t\t\tF605\n" (refused 13 9)
+    ∷ tabbed "%\nN001\t\t\tF6055\n" (refused 11 13)
+    ∷ tabbed "%\nN001\t\t\tF605" (refused 13 9)
+    ∷ tabbed "%\nN001\t\t\tF60" (refused 14 12)
+    ∷ tabbed "%\nN001" (refused 14 6)
+    ∷ []
+
+-- without tabs, in 2539
+abbrev without : List Case
+without =
+    case 2539 "N3X+042*" "%\nN001X+5\n" (taken 1)
+    ∷ case 2539 "N3X+420*" "%\nN001X5\n" (taken 1)
+    ∷ case 2539 "N3X+420*" "%\nN001X\n" (refused 11 7)
+    ∷ case 2539 "N3X42*" "%\nN001X+000001\n" (refused 12 7)
+    ∷ case 2539 "N3X+42Y+42*" "%\nN001Y000001X000001\n" (refused 10 13)
+    ∷ case 2539 "N3*" "%\nN001\n:002\n/N003\n" (taken 3)
+    ∷ []
+
+pub counts : map (λ c. counted (c .edition) (bytes (c .shorthand)) (rows (c .tape))) (withTabs ++ without) ≡ map (λ c. c .answer) (withTabs ++ without)
 unfolding ones entry lowest scan judged keptFrom meaning speedFor rank due anyDue digitsOf afterDigits stand standN itemsFrom parsed run figures dataAt wordsAt blockAt headAt blocksAt programAt read readUnder
-cases-right = refl
+counts = refl

@@ -5,7 +5,6 @@ pub mod Cases
 pub mod Outcomes
 pub mod Places
 pub mod Refusals
-
 -- complete: the rows of a program are taken as it
 pub mod RowsAhead
 pub mod DigitRows
@@ -13,17 +12,14 @@ pub mod WordTakes
 pub mod WordsTake
 pub mod BlockTakes
 pub mod Complete
-
 -- sound: what is taken stands as its rows
 pub mod Runs
 pub mod ReadData
 pub mod ReadWords
 pub mod ReadBlocks
 pub mod Sound
-
 -- the bridge
 pub mod Programs
-
 -- for the functions: rows in hand, digits, words, blocks, the whole walk
 pub mod Fetched
 pub mod DigitRun

@@ -18,7 +18,7 @@ pub record Case : Type 0 where
 abbrev case : ℕ → String → ℕ → ℕ → Case
 case e t n p = record { edition = e; text = t; number = n; place = p }
 
-abbrev bytes : String → List ℕ
+abbrev pub bytes : String → List ℕ
 bytes end = []
 bytes (c then s) = code c ∷ bytes s
 
