@@ -1,0 +1,97 @@
+-- Demand 2: what is accepted, what comes out, and what was punched reads back.
+use mathlib.Core.Path.{_≡_, refl, sym, ap, _∙_}
+use mathlib.Core.Logic.{_↔_}
+use mathlib.Core.Bool.{Bool, true, false, cond}
+use mathlib.Core.List.{List, [], _∷_, _++_, append-assoc, append-nil, map}
+use Prim.Native.Nat.{ℕ, _≤_, _<_}
+use lib.ListN.{length, getD, length-append, length-map, List·getD-map}
+use native.Mathlib.Omega.{arith}
+use lib.Dec.{leb}
+use borrow.Author.Tests.{le-ltb, lt-ltb}
+use Rattle.rows.specs.Answer.{Answer, taken, refused, _>>=_}
+use Rattle.rows.specs.Stages.{limit}
+use Rattle.shorthand.specs.declared.Format.{Format}
+use Rattle.shorthand.specs.Parse.{parsed}
+use Rattle.shorthand.proofs.Accepted.{sound}
+use Rattle.reading.specs.declared.Block.{Block}
+use Rattle.reading.specs.Record.{emptyBlock}
+use Rattle.reading.specs.Relation.{TapeOf}
+use Rattle.reading.specs.Parse.{Entry}
+use Rattle.reading.specs.Answers.{nowhere, readUnder, counted, blockNumbered}
+use Rattle.reading.proofs.Programs.{blocksOf, tape-read, read-tape}
+use Rattle.punching.specs.Rows.{headRows, cleared}
+use Rattle.punching.specs.Answers.{roomFor, headPunched, blockPunched}
+use Rattle.punching.proofs.Refusals.{block-written}
+use Rattle.punching.proofs.PunchedTapes.{block-appended, head-tape}
+
+module _ (e : ℕ) (s t : List ℕ) where
+  -- "A tape is accepted exactly when it is a tape of some program under the edition and shorthand,"
+  pub accepted-exactly : ((c : ℕ) × (counted e s t ≡ taken c)) ↔ ((bs : List Block) × TapeOf e s bs t)
+  accepted-exactly = (
+    λ a. by (readUnder e s t) refl (a .1),
+    λ p. let a = tape-read e s t (p .0) (p .1) in (length (a .0), rw (a .1)),
+  )
+    where
+      by : {c : ℕ} (a : Answer (List Entry)) → readUnder e s t ≡ a → (a >>= λ es. taken (length es)) ≡ taken c → (bs : List Block) × TapeOf e s bs t
+      by (taken es) q z = (blocksOf es, read-tape e s t es q)
+      by (refused n p) q z = let w : _≡_ {A = ℕ} 0 1 = cc in absurd (omega arith)
+
+  as-many : (bs : List Block) (h : TapeOf e s bs t) → length (tape-read e s t bs h .0) ≡ length bs
+  as-many bs h = let a = tape-read e s t bs h in sym (length-map (a .0) (λ x. x .block)) ∙ ap length (a .2)
+
+  -- "and then every block comes out as they say": their number is the program's,
+  pub count-said : (bs : List Block) → TapeOf e s bs t → counted e s t ≡ taken (length bs)
+  count-said bs h = rw (tape-read e s t bs h .1, as-many bs h)
+
+  -- block n is the program's,
+  pub block-said : (bs : List Block) → TapeOf e s bs t → (n : ℕ) → n < length bs → blockNumbered e s t n ≡ taken (getD bs n emptyBlock)
+  block-said bs h n l =
+      let a = tape-read e s t bs h in
+      let same = as-many bs h in
+      let at : getD bs n emptyBlock ≡ getD (a .0) n nowhere .block = ap (λ l. getD l n emptyBlock) (sym (a .2)) ∙ List·getD-map (λ x. x .block) (a .0) n nowhere in
+      rw (a .1, lt-ltb n (length (a .0)) (rw same l), at)
+
+  -- and past the last one there is none
+  pub no-more : (bs : List Block) → TapeOf e s bs t → (n : ℕ) → length bs ≤ n → blockNumbered e s t n ≡ refused 15 (length bs)
+  no-more bs h n l =
+      let a = tape-read e s t bs h in
+      let same = as-many bs h in
+      rw (a .1, le-ltb n (length (a .0)) (rw same l), same)
+
+shorter : {n : ℕ} (t u : List ℕ) → length (t ++ u) ≤ n → length t ≤ n
+shorter t u l = omega (arith, length-append t u)
+
+room-rows : (buffer rows r : List ℕ) → roomFor buffer rows ≡ taken r → rows ≡ r
+room-rows buffer rows r = by (leb (length rows) (length buffer))
+  where
+    by : (room : Bool) → cond room (taken rows) (refused 19 (length rows)) ≡ taken r → rows ≡ r
+    by true q = cc
+    by false q = let w : _≡_ {A = ℕ} 0 1 = cc in absurd (omega arith)
+
+module _ (e : ℕ) (s : List ℕ) where
+  -- blocks punched one after another, each into some buffer, and all the rows that were punched
+  pub data PunchedAs : List Block → List ℕ → Type 0 where
+    none : PunchedAs [] []
+    more : {b : Block} {bs : List Block} {r u : List ℕ} (buffer : List ℕ) → blockPunched e s b buffer ≡ taken r → PunchedAs bs u → PunchedAs (b ∷ bs) (r ++ u)
+
+  one-behind : {bs : List Block} {t r : List ℕ} (b : Block) (buffer : List ℕ) → TapeOf e s bs t → blockPunched e s b buffer ≡ taken r → length (t ++ r) ≤ limit
+      → TapeOf e s (bs ++ (cleared b ∷ [])) (t ++ r)
+  one-behind {t = t} {r = r} b buffer h q l =
+      let w = block-written e s b buffer r q in
+      let is = w .fitted .rows in
+      rw is (block-appended e s (w .format) (w .parses) b h (w .fitted .fits) (rw is at l))
+
+  behind : {bs : List Block} {t : List ℕ} (cs : List Block) (u : List ℕ) → TapeOf e s bs t → PunchedAs cs u → length (t ++ u) ≤ limit → TapeOf e s (bs ++ map cleared cs) (t ++ u)
+  behind {bs} {t} [] _ h none l = rw (append-nil bs, append-nil t) h
+  behind {bs} {t} (b ∷ cs) _ h (more {r = r} {u = u} buffer q p) l =
+      let within : length ((t ++ r) ++ u) ≤ limit = rw (append-assoc t r u) l in
+      let next = one-behind b buffer h q (shorter (t ++ r) u within) in
+      rw (append-assoc bs (cleared b ∷ []) (map cleared cs), append-assoc t r u) at (behind cs u next p within)
+
+  -- "Blocks punched after the head, within the length limit, read back as the same blocks", unused places cleared.
+  pub read-back : (f : Format) → parsed e s ≡ taken f → (buffer head : List ℕ) → headPunched buffer ≡ taken head → (bs : List Block) (u : List ℕ) → PunchedAs bs u
+      → length (head ++ u) ≤ limit → TapeOf e s (map cleared bs) (head ++ u)
+  read-back f q buffer head h bs u p l =
+      let lawful = sound e s f q in
+      let is : headRows ≡ head = room-rows buffer headRows head h in
+      behind bs u (rw is at (head-tape (lawful .1) (lawful .0))) p l

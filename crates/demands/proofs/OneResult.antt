@@ -1,0 +1,74 @@
+-- One possible result: two results that meet a promise on what they tell are the same. All other promises are equalities with the result itself.
+use Prim.Native.Nat.{ℕ}
+use native.Mathlib.Omega.{arith}
+use mathlib.Core.Path.{_≡_, refl, ap, sym, _∙_}
+use Rattle.rows.specs.Answer.{Answer, taken, refused, refusal, numberOf, placeOf, told}
+use Rattle.rows.specs.declared.Refusal.{Refusal}
+use Rattle.rows.specs.declared.Checked.{Checked}
+use Rattle.rows.specs.declared.Checked.the-variants.{Clean, Refused}
+use Rattle.speeds.specs.declared.Speed.{Speed}
+use Rattle.speeds.specs.declared.Speed.the-variants.{Units}
+use Rattle.speeds.specs.declared.Code.{Code}
+use Rattle.speeds.specs.declared.Code.the-variants.{Number}
+use Rattle.speeds.specs.Coding.{speedTold, codeTold}
+use Rattle.reading.specs.declared.Counted.{Counted}
+use Rattle.reading.specs.declared.Counted.the-variants.{Blocks}
+use Rattle.reading.specs.Front.{countTold}
+use Rattle.punching.specs.declared.Punched.{Punched}
+use Rattle.punching.specs.declared.Punched.the-variants.{Rows}
+use Rattle.punching.specs.Answers.{punchedTold}
+
+-- a refusal is its number and its place
+same-refusal : {A : Type 0} (r q : Refusal) → _≡_ {A = Answer A} (refusal r) (refusal q) → r ≡ q
+same-refusal r q e =
+    let n : r .number ≡ q .number = ap numberOf e in
+    let p : r .place ≡ q .place = ap placeOf e in
+    let m : (k : ℕ) → q .number ≡ k → _≡_ {A = Refusal} (record { number = k; place = r .place }) q = λ k h. rw (sym h, p) in
+    m (r .number) (sym n)
+
+-- an enum of something taken and a refusal, and what it tells
+module _ {A R : Type 0} (tell : R → Answer A) (value : A → R) (refuse : Refusal → R) where
+  pub data Case : R → Type 0 where
+    takes : (a : A) → tell (value a) ≡ taken a → Case (value a)
+    refuses : (r : Refusal) → tell (refuse r) ≡ refusal r → Case (refuse r)
+
+  one : {r q : R} → Case r → Case q → tell r ≡ tell q → r ≡ q
+  one (takes a h) (takes b k) e = let s : a ≡ b = cc in ap value s
+  one (takes a h) (refuses r k) e = let z : _≡_ {A = ℕ} 0 1 = cc in absurd (omega arith)
+  one (refuses r h) (takes a k) e = let z : _≡_ {A = ℕ} 0 1 = cc in absurd (omega arith)
+  one (refuses r h) (refuses q k) e = ap refuse (same-refusal r q (sym h ∙ e ∙ k))
+
+pub one-check : (r q : Checked) → told r ≡ told q → r ≡ q
+one-check r q = one told (λ u. Clean) Refused (case r) (case q)
+  where
+    case : (r : Checked) → Case told (λ u. Clean) Refused r
+    case Clean = takes tt refl
+    case (Refused r) = refuses r refl
+
+pub one-speed : (r q : Speed) → speedTold r ≡ speedTold q → r ≡ q
+one-speed r q = one speedTold Units Speed.Refused (case r) (case q)
+  where
+    case : (r : Speed) → Case speedTold Units Speed.Refused r
+    case (Units v) = takes v refl
+    case (Speed.Refused r) = refuses r refl
+
+pub one-code : (r q : Code) → codeTold r ≡ codeTold q → r ≡ q
+one-code r q = one codeTold Number Code.Refused (case r) (case q)
+  where
+    case : (r : Code) → Case codeTold Number Code.Refused r
+    case (Number c) = takes c refl
+    case (Code.Refused r) = refuses r refl
+
+pub one-count : (r q : Counted) → countTold r ≡ countTold q → r ≡ q
+one-count r q = one countTold Blocks Counted.Refused (case r) (case q)
+  where
+    case : (r : Counted) → Case countTold Blocks Counted.Refused r
+    case (Blocks n) = takes n refl
+    case (Counted.Refused r) = refuses r refl
+
+pub one-punching : (r q : Punched) → punchedTold r ≡ punchedTold q → r ≡ q
+one-punching r q = one punchedTold Rows Punched.Refused (case r) (case q)
+  where
+    case : (r : Punched) → Case punchedTold Rows Punched.Refused r
+    case (Rows n) = takes n refl
+    case (Punched.Refused r) = refuses r refl

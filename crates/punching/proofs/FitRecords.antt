@@ -1,0 +1,140 @@
+-- The records that no row of the table refuses are exactly those that can stand on a tape; whatever is read can be punched.
+use Prim.Native.Nat.{ℕ, zero, suc, _-_, _^_, _≤_, _<_, zero-le}
+use mathlib.Core.Path.{_≡_, refl, ap, ap₂, subst}
+use mathlib.Core.Bool.{Bool, true, _&&_, not}
+use mathlib.Core.Logic.{_↔_}
+use mathlib.Core.List.{List, [], _∷_, map}
+use native.Mathlib.Omega.{arith}
+use lib.Dec.{T, T-not, eqb, eqb-refl}
+use lib.IntN.{ℤ, pos, negℤ, natAbs}
+use lib.ListN.{length, replicate, length-take}
+use lib.Seq.{take-append-seam}
+use borrow.Author.Tests.{lt-ltb, le-leb, eq-eqb, ne-eqb}
+use Rattle.rows.specs.Answer.{taken}
+use Rattle.rows.specs.Passes.{Every}
+use Rattle.rows.specs.Stages.{limit}
+use Rattle.speeds.proofs.ExactCode.{means-exact}
+use Rattle.shorthand.specs.declared.Missing.{Missing}
+use Rattle.shorthand.specs.declared.Kind.{Kind}
+use Rattle.shorthand.specs.declared.Item.{Item}
+use Rattle.shorthand.specs.declared.Format.{Format}
+use Rattle.shorthand.specs.Layout.{Sign, required, optional}
+use Rattle.shorthand.specs.Facts.{Fair, Facts}
+use Rattle.shorthand.specs.Edition.{anyOf}
+use Rattle.shorthand.proofs.Tests.{left, right}
+use Rattle.shorthand.proofs.Fairness.{lawful-facts}
+use Rattle.reading.specs.declared.Value.{Value}
+use Rattle.reading.specs.declared.Word.{Word}
+use Rattle.reading.specs.declared.Block.{Block}
+use Rattle.reading.specs.Record.{blank, blockOf, wordsOf}
+use Rattle.reading.specs.Figures.{mayStand}
+use Rattle.reading.specs.Relation.{Punched, in-full, front, back, Signed, never, plus, minus-stands, plus-stands, plus-missing, Data, number, speed, dimension, Worded, word, Words, done, out, here, Blocked, block, Blocks, none, more, Program, program, TapeOf}
+use Rattle.punching.specs.Rows.{minus, blockChars, cleared}
+use Rattle.punching.specs.Fits.{valueFits, wordsFit, recordFits}
+use Rattle.punching.proofs.Records.{punched-stands}
+use Rattle.punching.proofs.PunchedTapes.{punchedTape, punched-tape}
+
+-- ---- a word
+
+small : {n v : ℕ} {m : Missing} {ds : List ℕ} → Punched n v m ds → v < 10 ^ n
+small (in-full h) = h
+small (front j h e some) = h
+small (back j h e some) = h
+
+-- a signed value has its magnitude, and is negative only where a sign may stand
+record Measured (m : ℕ) (s : Sign) (z : ℤ) : Type 0 where
+  size : natAbs z ≡ m
+  sign : not (minus z && not (mayStand s)) ≡ true
+
+opposite : (m : ℕ) (s : Sign) → mayStand s ≡ true → Measured m s (negℤ (pos m))
+opposite zero s e = record { size = refl; sign = refl }
+opposite (suc m) s e = record { size = refl; sign = rw e }
+
+measured : {m : ℕ} {s : Sign} {z : ℤ} {x : List ℕ} → Signed m s z x → Measured m s z
+measured never = record { size = refl; sign = refl }
+measured plus = record { size = refl; sign = refl }
+measured {m} Signed.minus = opposite m required refl
+measured plus-stands = record { size = refl; sign = refl }
+measured {m} minus-stands = opposite m optional refl
+measured plus-missing = record { size = refl; sign = refl }
+
+value-fit : {k : Kind} {v : Value} {ds : List ℕ} → Data k v ds → (i : ℕ) → valueFits i k v ≡ taken tt
+value-fit (number p) i = rw (lt-ltb _ _ (small p))
+value-fit (speed {k = k} {v = v} c e) i = rw (means-exact k v c e)
+value-fit (dimension {d = d} g p) i = let q = measured g in rw (q .size, lt-ltb _ _ (small p), q .sign)
+
+-- ---- words
+
+word-fit : {it : Item} {w : Word} {d : List ℕ} → Worded it w d → (i : ℕ) → (w .letter ≡ it .letter) × (valueFits i (it .kind) (w .value) ≡ taken tt)
+word-fit (word d) i = (refl, value-fit d i)
+
+abbrev has : List Item → ℕ → Bool
+has its l = anyOf (λ c. eqb c l) (map (λ i. i .letter) its)
+
+-- the first word has the letter of one of the items
+first-letter : {tabs : Bool} {its : List Item} {w : Word} {ws : List Word} {r : List ℕ} → Words tabs its (w ∷ ws) r → T (has its (w .letter))
+first-letter {w = w} (out {it = it} {its = its} h) = right (eqb (it .letter) (w .letter)) (has its (w .letter)) (first-letter h)
+first-letter {w = w} (here {it = it} {its = its} x h) = left (eqb (it .letter) (w .letter)) (has its (w .letter)) (rw (word-fit x 0 .0) (eqb-refl (it .letter)))
+
+-- no letter stands twice, so an item whose word is left out is passed by
+passed : {tabs : Bool} {its : List Item} {r : List ℕ} (i : ℕ) (it : Item) (ws : List Word) → T (not (has its (it .letter))) → Words tabs its ws r
+    → wordsFit i its ws ≡ taken tt → wordsFit i (it ∷ its) ws ≡ taken tt
+unfolding wordsFit
+passed i it [] new h e = e
+passed {its = its} i it (w ∷ ws) new h e =
+    let other = ne-eqb (w .letter) (it .letter) (λ q. T-not (has its (it .letter)) new (rw q at (first-letter h))) in
+    rw other e
+
+words-fit : {tabs : Bool} {its : List Item} {ws : List Word} {r : List ℕ} → Fair its → Words tabs its ws r → (i : ℕ) → wordsFit i its ws ≡ taken tt
+unfolding wordsFit
+words-fit fair done i = refl
+words-fit (Fair.more l w new fair) (out {it = it} {ws = ws} h) i = passed i it ws new h (words-fit fair h i)
+words-fit (Fair.more l w new fair) (here x h) i = let f = word-fit x i in rw (eq-eqb _ _ (f .0), f .1) (words-fit fair h (suc i))
+
+few-words : {tabs : Bool} {its : List Item} {ws : List Word} {r : List ℕ} → Words tabs its ws r → length ws ≤ length its
+few-words done = zero-le
+few-words (out h) = omega (arith, few-words h)
+few-words (here x h) = omega (arith, few-words h)
+
+-- ---- a record
+
+words-of : (skip alignment : Bool) (n : ℕ) (ws : List Word) → wordsOf (blockOf skip alignment n ws) ≡ ws
+words-of skip alignment n ws = take-append-seam ws (replicate (22 - length ws) blank)
+
+-- a block that stands as some rows has its unused places cleared
+pub block-cleared : {f : Format} {b : Block} {r : List ℕ} → Blocked f b r → cleared b ≡ b
+block-cleared (block {n = n} {ws = ws} skip alignment h w e) = ap (blockOf skip alignment n) (words-of skip alignment n ws)
+
+module _ {f : Format} (facts : Facts f) where
+  -- and is refused by no row of the table
+  pub block-fit : {b : Block} {r : List ℕ} → Blocked f b r → recordFits f b ≡ taken tt
+  unfolding recordFits
+  block-fit (block {n = n} {ws = ws} skip alignment h w e) =
+      let few : length ws ≤ 22 = omega (arith, few-words w, length-take (f .count) (f .items), facts .few) in
+      rw (le-leb _ _ few, lt-ltb _ _ h, words-of skip alignment n ws) (words-fit (facts .fair) w 1)
+
+  -- of records with a fit count, exactly those are taken that can stand as some rows
+  pub fit-exactly : (b : Block) → b .count ≤ 22 → (recordFits f b ≡ taken tt) ↔ ((r : List ℕ) × Blocked f (cleared b) r)
+  unfolding recordFits
+  fit-exactly b few = (
+    λ e. (blockChars f b, punched-stands f facts b e),
+    λ h.
+        let less : length (wordsOf b) ≤ 22 = omega (arith, length-take (b .count) (b .words)) in
+        let same = words-of (b .skip) (b .alignment) (b .sequence) (wordsOf b) in
+        rw (le-leb (b .count) 22 few) (rw (le-leb (length (wordsOf b)) 22 less, same) at (block-fit (h .1))),
+  )
+
+  -- ---- what is read can be punched
+
+  blocks-fit : {bs : List Block} {r : List ℕ} → Blocks f bs r → Every (λ b. recordFits f b ≡ taken tt) bs × (map cleared bs ≡ bs)
+  blocks-fit none = (tt, refl)
+  blocks-fit (more h m) = let rest = blocks-fit m in ((block-fit h, rest .0), ap₂ (λ b bs. b ∷ bs) (block-cleared h) (rest .1))
+
+  pub program-fit : {bs : List Block} {r : List ℕ} → Program f bs r → Every (λ b. recordFits f b ≡ taken tt) bs × (map cleared bs ≡ bs)
+  program-fit (program e h) = blocks-fit h
+
+-- the blocks of any tape, punched anew, are within the limit a tape of the same program
+pub punched-again : {e : ℕ} {s : List ℕ} {bs : List Block} {t : List ℕ} (h : TapeOf e s bs t) → length (punchedTape (h .format) bs) ≤ limit → TapeOf e s bs (punchedTape (h .format) bs)
+punched-again {e} {s} {bs} h short =
+    let p = program-fit (lawful-facts (h .lawful)) (h .stands) in
+    subst (λ (cs : List Block). TapeOf e s cs (punchedTape (h .format) bs)) (p .1) (punched-tape (h .lawful) (h .spelt) bs (p .0) short)

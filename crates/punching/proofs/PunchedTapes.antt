@@ -1,0 +1,143 @@
+-- The round trip: a head and blocks punched behind any accepted tape, within the row limit, read back as they were handed in, with unused places cleared.
+use Prim.Native.Nat.{ℕ, _+_, _≤_}
+use mathlib.Core.Path.{_≡_, ap, _∙_}
+use mathlib.Core.List.{List, [], _∷_, _++_, append-assoc, append-nil, map}
+use native.Mathlib.Omega.{arith}
+use lib.Dec.{lit≤}
+use lib.ListN.{length, length-append, length-map}
+use Rattle.rows.specs.Answer.{taken}
+use Rattle.rows.specs.Kept.{kept}
+use Rattle.rows.specs.ControlOut.{WellFormed}
+use Rattle.rows.specs.Passes.{Every, Passes}
+use Rattle.rows.specs.Stages.{limit}
+use Rattle.shorthand.specs.declared.Format.{Format}
+use Rattle.shorthand.specs.Facts.{Facts}
+use Rattle.shorthand.specs.Lawful.{Lawful}
+use Rattle.shorthand.specs.Spell.{spell}
+use Rattle.shorthand.specs.Parse.{parsed}
+use Rattle.shorthand.proofs.Accepted.{complete}
+use Rattle.shorthand.proofs.Fairness.{lawful-facts}
+use Rattle.reading.specs.declared.Block.{Block}
+use Rattle.reading.specs.Relation.{lf, Blocks, none, more, Program, program, chars, TapeOf}
+use Rattle.reading.specs.Parse.{Entry}
+use Rattle.reading.specs.Answers.{readUnder}
+use Rattle.reading.proofs.Outcomes.{chars-append}
+use Rattle.reading.proofs.Programs.{blocksOf, tape-read, read-tape}
+use Rattle.punching.specs.Rows.{rowOf, blockChars, rowsOf, headRows, cleared}
+use Rattle.punching.specs.Fits.{recordFits}
+use Rattle.punching.specs.Answers.{blockPunched}
+use Rattle.punching.proofs.Records.{punched-stands}
+use Rattle.punching.proofs.PunchedRows.{Bare, punched-kept, punched-pass, block-bare}
+use Rattle.punching.proofs.Appended.{passes-append, kept-append}
+use Rattle.punching.proofs.Refusals.{block-written}
+
+-- ---- blocks behind a program
+
+pub blocks-append : {f : Format} {bs cs : List Block} {r s : List ℕ} → Blocks f bs r → Blocks f cs s → Blocks f (bs ++ cs) (r ++ s)
+blocks-append none q = q
+blocks-append {s = s} (more {r = r} {s = u} b p) q = rw (append-assoc r u s) (more b (blocks-append p q))
+
+pub program-append : {f : Format} {bs cs : List Block} {r s : List ℕ} → Program f bs r → Blocks f cs s → Program f (bs ++ cs) (r ++ s)
+program-append {s = s} (program {e = e} {r = r} x p) q = rw (append-assoc e r s) (program x (blocks-append p q))
+
+-- ---- rows behind a tape
+
+-- punched behind a tape, characters are kept as they are
+pub chars-punched : {t : List ℕ} → WellFormed t → (cs : List ℕ) → Bare cs → chars (kept (t ++ map rowOf cs)) ≡ chars (kept t) ++ cs
+chars-punched {t} w cs bare =
+    ap chars (kept-append w 0 (map rowOf cs)) ∙ chars-append (kept t) _ ∙ ap (λ l. chars (kept t) ++ l) (punched-kept cs bare (0 + length t))
+
+pub rows-pass : {t : List ℕ} → Passes t → (cs : List ℕ) → Bare cs → length (t ++ map rowOf cs) ≤ limit → Passes (t ++ map rowOf cs)
+rows-pass {t} p cs bare h = passes-append p (punched-pass cs bare (omega (arith, length-append t (map rowOf cs), length-map cs rowOf))) h
+
+module _ (f : Format) (facts : Facts f) (b : Block) (fits : recordFits f b ≡ taken tt) where
+  -- every character punched for a record is one of the 50, and neither NUL, DEL, "(" nor ")"
+  pub punched-bare : Bare (blockChars f b)
+  punched-bare = block-bare facts (punched-stands f facts b fits)
+
+  pub kept-punched : {t : List ℕ} → WellFormed t → chars (kept (t ++ rowsOf f b)) ≡ chars (kept t) ++ blockChars f b
+  kept-punched w = chars-punched w (blockChars f b) punched-bare
+
+  pub passes-punched : {t : List ℕ} → Passes t → length (t ++ rowsOf f b) ≤ limit → Passes (t ++ rowsOf f b)
+  passes-punched p h = rows-pass p (blockChars f b) punched-bare h
+
+  program-punched : {bs : List Block} {t : List ℕ} → WellFormed t → Program f bs (chars (kept t)) → Program f (bs ++ (cleared b ∷ [])) (chars (kept (t ++ rowsOf f b)))
+  program-punched w q =
+      rw (kept-punched w) (program-append q (rw append-nil at (more (punched-stands f facts b fits) none)))
+
+-- ---- tapes as punched
+
+-- the rows of some blocks
+abbrev pub punchedBlocks : Format → List Block → List ℕ
+punchedBlocks f [] = []
+punchedBlocks f (b ∷ bs) = rowsOf f b ++ punchedBlocks f bs
+
+-- a head, and blocks behind it
+abbrev pub punchedTape : Format → List Block → List ℕ
+punchedTape f bs = headRows ++ punchedBlocks f bs
+
+-- ---- a block behind a tape
+
+module _ (e : ℕ) (s : List ℕ) (f : Format) (parses : parsed e s ≡ taken f) where
+  pub block-appended : {bs : List Block} {t : List ℕ} (b : Block) → TapeOf e s bs t → recordFits f b ≡ taken tt → length (t ++ rowsOf f b) ≤ limit
+      → TapeOf e s (bs ++ (cleared b ∷ [])) (t ++ rowsOf f b)
+  block-appended {bs} {t} b h fits short =
+      let p : parsed e s ≡ taken (h .format) = ap (parsed e) (h .spelt) ∙ complete (h .lawful) in
+      let same : h .format ≡ f = cc in
+      let lawful : Lawful e f = rw same at (h .lawful) in
+      let facts = lawful-facts lawful in
+      record {
+        format = f;
+        lawful = lawful;
+        spelt = rw same at (h .spelt);
+        passes = passes-punched f facts b fits (h .passes) short;
+        stands = program-punched f facts b fits (h .passes .formed) (rw same at (h .stands));
+      }
+
+  -- ---- blocks behind a tape
+
+  pub blocks-appended : (cs : List Block) {bs : List Block} {t : List ℕ} → TapeOf e s bs t → Every (λ b. recordFits f b ≡ taken tt) cs → length (t ++ punchedBlocks f cs) ≤ limit
+      → TapeOf e s (bs ++ map cleared cs) (t ++ punchedBlocks f cs)
+  blocks-appended [] {bs} {t} h fits short = rw (append-nil bs, append-nil t) h
+  blocks-appended (b ∷ cs) {bs} {t} h fits short =
+      let rows = rowsOf f b in
+      let rest = punchedBlocks f cs in
+      let within : length (t ++ rows ++ rest) ≤ limit = rw (append-assoc t rows rest) short in
+      let next = block-appended b h (fits .0) (omega (arith, length-append (t ++ rows) rest)) in
+      rw (append-assoc bs (cleared b ∷ []) (map cleared cs), append-assoc t rows rest) at (blocks-appended cs next (fits .1) within)
+
+  -- ---- and read back
+
+  -- punched behind any accepted tape, a block reads back behind the old ones
+  pub read-appended : (t : List ℕ) (es : List Entry) (b : Block) → readUnder e s t ≡ taken es → recordFits f b ≡ taken tt → length (t ++ rowsOf f b) ≤ limit
+      → (es′ : List Entry) × (readUnder e s (t ++ rowsOf f b) ≡ taken es′) × (blocksOf es′ ≡ blocksOf es ++ (cleared b ∷ []))
+  read-appended t es b q fits short = tape-read e s (t ++ rowsOf f b) _ (block-appended b (read-tape e s t es q) fits short)
+
+-- ---- a whole tape
+
+module _ {e : ℕ} {s : List ℕ} {f : Format} (lawful : Lawful e f) (spelt : s ≡ spell f) where
+  -- the head alone is the program without blocks
+  pub head-tape : TapeOf e s [] headRows
+  head-tape =
+      record {
+        format = f;
+        lawful = lawful;
+        spelt = spelt;
+        passes = punched-pass (37 ∷ 10 ∷ []) (tt, (tt, tt)) (lit≤ tt);
+        stands = rw (punched-kept (37 ∷ 10 ∷ []) (tt, (tt, tt)) 0) (program lf none);
+      }
+
+  pub punched-tape : (bs : List Block) → Every (λ b. recordFits f b ≡ taken tt) bs → length (punchedTape f bs) ≤ limit → TapeOf e s (map cleared bs) (punchedTape f bs)
+  punched-tape bs fits short = blocks-appended e s f (ap (parsed e) spelt ∙ complete lawful) bs head-tape fits short
+
+  -- a head and any number of blocks punched behind it read back as those blocks
+  pub punched-read : (bs : List Block) → Every (λ b. recordFits f b ≡ taken tt) bs → length (punchedTape f bs) ≤ limit
+      → (es : List Entry) × (readUnder e s (punchedTape f bs) ≡ taken es) × (blocksOf es ≡ map cleared bs)
+  punched-read bs fits short = tape-read e s (punchedTape f bs) (map cleared bs) (punched-tape bs fits short)
+
+-- what is punched for a block under an edition and a shorthand, behind any tape accepted under them, reads back behind the old blocks
+pub punched-back : (e : ℕ) (s : List ℕ) (b : Block) (buffer r t : List ℕ) (es : List Entry) → blockPunched e s b buffer ≡ taken r → readUnder e s t ≡ taken es → length (t ++ r) ≤ limit
+    → (es′ : List Entry) × (readUnder e s (t ++ r) ≡ taken es′) × (blocksOf es′ ≡ blocksOf es ++ (cleared b ∷ []))
+punched-back e s b buffer r t es q accepted short =
+    let w = block-written e s b buffer r q in
+    rw (w .fitted .rows) (read-appended e s (w .format) (w .parses) t es b accepted (w .fitted .fits) (rw (w .fitted .rows) at short))

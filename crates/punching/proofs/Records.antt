@@ -1,0 +1,153 @@
+-- A record that no row of the table refuses stands, as the rows punched for it, in reading's relation; and which refusals a record can have.
+use Prim.Native.Nat.{ℕ, suc, _+_, _^_, _≤_, _<_}
+use mathlib.Core.Path.{_≡_, refl, sym, subst}
+use mathlib.Core.Bool.{Bool, true, false, _&&_, not, cond}
+use mathlib.Core.List.{List, [], _∷_, _++_, append-nil}
+use native.Mathlib.Omega.{arith}
+use lib.Dec.{T, eqb, leb, ltb}
+use lib.IntN.{ℤ, pos, negsuc, natAbs}
+use lib.ListN.{length, length-take}
+use borrow.Author.Tests.{ltb-true, ltb-false, leb-true, leb-false, eqb-true}
+use Rattle.rows.specs.Row.{among}
+use Rattle.rows.specs.Answer.{taken, refused, _>>_}
+use Rattle.speeds.specs.declared.Exact.{Exact}
+use Rattle.speeds.specs.declared.Exact.the-variants.{Inexact, Means}
+use Rattle.speeds.specs.Coding.{exactFor}
+use Rattle.speeds.proofs.ExactCode.{exact-means}
+use Rattle.shorthand.specs.declared.Missing.{Missing}
+use Rattle.shorthand.specs.declared.Missing.the-variants.{Nothing, Leading, Trailing}
+use Rattle.shorthand.specs.declared.Kind.{Kind}
+use Rattle.shorthand.specs.declared.Kind.the-variants.{Plain}
+use Rattle.shorthand.specs.declared.Item.{Item}
+use Rattle.shorthand.specs.declared.Format.{Format}
+use Rattle.shorthand.specs.Layout.{itemsOf, width, Sign, barred, required, optional, signOf}
+use Rattle.shorthand.specs.Facts.{Widths, Fair, more, Facts}
+use Rattle.reading.specs.declared.Value.{Value}
+use Rattle.reading.specs.declared.Value.the-variants.{Number}
+use Rattle.reading.specs.declared.Word.{Word}
+use Rattle.reading.specs.declared.Block.{Block}
+use Rattle.reading.specs.Record.{wordsOf}
+use Rattle.reading.specs.Figures.{mayStand}
+use Rattle.reading.specs.Relation.{digits, Punched, in-full, front, back, Signed, never, plus, minus-stands, plus-stands, Data, number, speed, dimension, word, address, tab, Words, done, out, here, lf, Blocked, block}
+use Rattle.reading.proofs.DigitRows.{digits-length}
+use Rattle.reading.proofs.Outcomes.{Holds, refusal, value, holds-map, of-taken, of-refused}
+use Rattle.punching.specs.Rows.{minus, signRows, codeRows, dataRows, wordRows, blockChars, cleared}
+use Rattle.punching.specs.Fits.{Fit, unless, coded, valueFits, wordsFit, recordFits}
+
+-- ---- the data of a word at full length
+
+full : (m : Missing) (n v : ℕ) → 1 ≤ n → v < 10 ^ n → Punched n v m (digits n v)
+full Nothing n v some h = in-full h
+full Leading n v some h = front {ds = digits n v} 0 h refl (omega (arith, digits-length n v))
+full Trailing n v some h = back {ds = digits n v} 0 h (sym (append-nil (digits n v))) (omega (arith, digits-length n v))
+
+-- a number that is negative only where a sign may stand has its sign there
+signs : (s : Sign) (z : ℤ) → not (minus z && not (mayStand s)) ≡ true → Signed (natAbs z) s z (signRows s z)
+signs barred (pos n) h = never
+signs barred (negsuc n) h = let e : _≡_ {A = ℕ} 0 1 = cc in absurd (omega arith)
+signs required (pos n) h = plus
+signs required (negsuc n) h = Signed.minus
+signs optional (pos n) h = plus-stands
+signs optional (negsuc n) h = minus-stands
+
+both : (a b : Bool) → (a && b) ≡ true → (a ≡ true) × (b ≡ true)
+both true b e = (refl, e)
+both false b e = let z : _≡_ {A = ℕ} 0 1 = cc in absurd (omega arith)
+
+-- ---- words at their items
+
+abbrev Stand : Bool → List Item → List Word → Type 0
+Stand tabs its ws = Fair its → Words tabs its ws (wordRows tabs its ws)
+
+at-item : (tabs : Bool) (it : Item) (its : List Item) (w : Word) (ws : List Word) → w .letter ≡ it .letter → (Widths (it .kind) → Data (it .kind) (w .value) (dataRows (it .kind) (w .value)))
+    → Stand tabs its ws → Fair (it ∷ its) → Words tabs (it ∷ its) (w ∷ ws) (tab tabs ++ (address it ++ (dataRows (it .kind) (w .value) ++ wordRows tabs its ws)))
+at-item tabs it its w ws e d h (more l width new fair) =
+    subst (λ (c : ℕ). Words tabs (it ∷ its) (record { letter = c; value = w .value } ∷ ws) (tab tabs ++ (address it ++ (dataRows (it .kind) (w .value) ++ wordRows tabs its ws))))
+    (sym e)
+    (here (word (d width)) (h fair))
+
+past-item : (tabs : Bool) (it : Item) (its : List Item) (ws : List Word) → Stand tabs its ws → Fair (it ∷ its) → Words tabs (it ∷ its) ws (tab tabs ++ wordRows tabs its ws)
+past-item tabs it its ws h (more l width new fair) = out (h fair)
+
+-- ---- a refusal, or what stands
+
+-- the refusals of a word
+abbrev pub WordRefusal : ℕ → Type 0
+WordRefusal n = T (among n (16 ∷ 17 ∷ 18 ∷ []))
+
+module _ {Q : ℕ → ℕ → Type 0} where
+  tested : (ok : Bool) (n p : ℕ) → (ok ≡ false → Q n p) → Holds Q (λ _. ok ≡ true) (unless ok n p)
+  tested true n p q = value refl
+  tested false n p q = refusal (q refl)
+
+  fits-then : {P R : Unit {0} → Type 0} {x y : Fit} → Holds Q P x → (P tt → Holds Q R y) → Holds Q R (x >> y)
+  fits-then (refusal h) f = refusal h
+  fits-then (value h) f = f h
+
+  code-fits : (i k v : ℕ) (x : Exact) → exactFor k v ≡ x → Q 18 i → Holds Q (λ _. Data (Kind.Speed k) (Value.Speed v) (codeRows k x)) (coded i x)
+  code-fits i k v (Means c) e q = value (speed c (exact-means k v c e))
+  code-fits i k v Inexact e q = refusal q
+
+  value-fits : (i : ℕ) → ((n : ℕ) → WordRefusal n → Q n i) → (k : Kind) (v : Value) → Holds Q (λ _. Widths k → Data k v (dataRows k v)) (valueFits i k v)
+  value-fits i q (Plain n) (Number v) = holds-map (λ _ h w. number (in-full (ltb-true v (10 ^ n) h))) (tested (ltb v (10 ^ n)) 17 i (λ _. q 17 tt))
+  value-fits i q (Plain n) (Value.Dimension z) = refusal (q 16 tt)
+  value-fits i q (Plain n) (Value.Speed v) = refusal (q 16 tt)
+  value-fits i q (Kind.Speed k) (Number v) = refusal (q 16 tt)
+  value-fits i q (Kind.Speed k) (Value.Dimension z) = refusal (q 16 tt)
+  value-fits i q (Kind.Speed k) (Value.Speed v) = holds-map (λ _ h w. h) (code-fits i k v (exactFor k v) refl (q 18 tt))
+  value-fits i q (Kind.Dimension d) (Number v) = refusal (q 16 tt)
+  value-fits i q (Kind.Dimension d) (Value.Dimension z) =
+      holds-map
+      (λ _ h w. let p = both (ltb (natAbs z) (10 ^ width (Kind.Dimension d))) _ h in
+      dimension (signs (signOf (Kind.Dimension d)) z (p .1)) (full (d .missing) (d .before + d .after) (natAbs z) (w .2) (ltb-true _ _ (p .0))))
+      (tested _ 17 i (λ _. q 17 tt))
+  value-fits i q (Kind.Dimension d) (Value.Speed v) = refusal (q 16 tt)
+
+  -- the word w at the item it, with what holds of the words behind it, or of it and them at the later items
+  next-word : (tabs : Bool) (i : ℕ) (it : Item) (its : List Item) (w : Word) (ws : List Word) → ((n : ℕ) → WordRefusal n → Q n i)
+      → Holds Q (λ _. Stand tabs its ws) (wordsFit (suc i) its ws) → Holds Q (λ _. Stand tabs its (w ∷ ws)) (wordsFit i its (w ∷ ws)) → (x : Bool) → eqb (w .letter) (it .letter) ≡ x
+      → Holds Q
+      (λ _. Fair (it ∷ its)
+      → Words tabs (it ∷ its) (w ∷ ws) (tab tabs ++ cond x (address it ++ (dataRows (it .kind) (w .value) ++ wordRows tabs its ws)) (wordRows tabs its (w ∷ ws))))
+      (cond x (valueFits i (it .kind) (w .value) >> wordsFit (suc i) its ws) (wordsFit i its (w ∷ ws)))
+  next-word tabs i it its w ws q behind later true e =
+      fits-then (value-fits i q (it .kind) (w .value)) (λ d. holds-map (λ _ h. at-item tabs it its w ws (eqb-true _ _ e) d h) behind)
+  next-word tabs i it its w ws q behind later false e = holds-map (λ _ h. past-item tabs it its (w ∷ ws) h) later
+
+  -- words among the items still to come, the first of them word i
+  words-fit : (tabs : Bool) (i : ℕ) (its : List Item) (ws : List Word) → ((n p : ℕ) → WordRefusal n → i ≤ p → p < i + length ws → Q n p)
+      → Holds Q (λ _. Stand tabs its ws) (wordsFit i its ws)
+  unfolding wordRows wordsFit
+  words-fit tabs i its [] q = value (λ fair. done)
+  words-fit tabs i [] (w ∷ ws) q = refusal (q 16 i tt (omega arith) (omega arith))
+  words-fit tabs i (it ∷ its) (w ∷ ws) q =
+      next-word tabs i it its w ws (λ n h. q n i h (omega arith) (omega arith))
+      (words-fit tabs (suc i) its ws (λ n p h l m. q n p h (omega arith) (omega arith)))
+      (words-fit tabs i its (w ∷ ws) q)
+      (eqb (w .letter) (it .letter))
+      refl
+
+-- ---- a record
+
+-- what a record's refusals can be: 16 at 23 for its count, 17 at 0 for its sequence number, and 16 to 18 at a word, from 1
+pub data Fault (f : Format) (b : Block) : ℕ → ℕ → Type 0 where
+  crowded : 22 < b .count → Fault f b 16 23
+  unnumbered : b .count ≤ 22 → 10 ^ f .sequence ≤ b .sequence → Fault f b 17 0
+  at-word : {n p : ℕ} → b .count ≤ 22 → WordRefusal n → 1 ≤ p → p ≤ b .count → Fault f b n p
+
+record-fits : (f : Format) (b : Block) → Holds (Fault f b) (λ _. Facts f → Blocked f (cleared b) (blockChars f b)) (recordFits f b)
+unfolding recordFits blockChars
+record-fits f b =
+    fits-then (tested (leb (b .count) 22) 16 23 (λ e. crowded (leb-false _ _ e)))
+    (λ c. let few = leb-true (b .count) 22 c in
+    fits-then (tested (ltb (b .sequence) (10 ^ f .sequence)) 17 0 (λ e. unnumbered few (ltb-false _ _ e)))
+    (λ s. holds-map
+    (λ _ h facts. block (b .skip) (b .alignment) (ltb-true _ _ s) (h (facts .fair)) lf)
+    (words-fit (f .dots) 1 (itemsOf f) (wordsOf b) (λ n p h l m. at-word few h l (omega (arith, simp length-take at m))))))
+
+-- the rows of a record that no row of the table refuses stand as that record with its unused places cleared
+pub punched-stands : (f : Format) → Facts f → (b : Block) → recordFits f b ≡ taken tt → Blocked f (cleared b) (blockChars f b)
+punched-stands f facts b e = of-taken (record-fits f b) e facts
+
+pub record-refused : (f : Format) (b : Block) (n p : ℕ) → recordFits f b ≡ refused n p → Fault f b n p
+record-refused f b n p e = of-refused (record-fits f b) e

@@ -1,0 +1,44 @@
+-- What punching answers and leaves in the buffer: 1, 2 and 3, the record, then 19 (document 01, "Refusal numbers").
+use Prim.Native.Nat.{ℕ}
+use mathlib.Core.Bool.{cond}
+use mathlib.Core.List.{List, [], _++_}
+use lib.Dec.{leb}
+use lib.ListN.{length, drop}
+use Rattle.rows.specs.Answer.{Answer, taken, refused, refusal, _>>=_, _>>_}
+use Rattle.shorthand.specs.declared.Format.{Format}
+use Rattle.shorthand.specs.Parse.{parsed}
+use Rattle.reading.specs.declared.Block.{Block}
+use Rattle.punching.specs.declared.Punched.{Punched}
+use Rattle.punching.specs.declared.Punched.the-variants.{Rows}
+use Rattle.punching.specs.Rows.{rowsOf, headRows}
+use Rattle.punching.specs.Fits.{recordFits}
+
+-- rows that find room in a buffer, or 19 at the rows needed
+abbrev pub roomFor : List ℕ → List ℕ → Answer (List ℕ)
+roomFor buffer rows = cond (leb (length rows) (length buffer)) (taken rows) (refused 19 (length rows))
+
+-- the head checks only 19
+abbrev pub headPunched : List ℕ → Answer (List ℕ)
+headPunched buffer = roomFor buffer headRows
+
+-- a block under a Format
+unfoldable pub blockFor : Format → Block → List ℕ → Answer (List ℕ)
+blockFor f b buffer = recordFits f b >> roomFor buffer (rowsOf f b)
+
+-- a block under an edition and a shorthand
+unfoldable pub blockPunched : ℕ → List ℕ → Block → List ℕ → Answer (List ℕ)
+blockPunched e s b buffer = parsed e s >>= λ f. blockFor f b buffer
+
+-- the number of rows written
+abbrev pub written : Answer (List ℕ) → Answer ℕ
+written a = a >>= λ rows. taken (length rows)
+
+-- the buffer after: the rows and then the old rest, or as it was
+abbrev pub after : List ℕ → Answer (List ℕ) → List ℕ
+after buffer (taken rows) = rows ++ drop (length rows) buffer
+after buffer (refused n p) = buffer
+
+-- what each case of `Punched` says
+abbrev pub punchedTold : Punched → Answer ℕ
+punchedTold (Rows n) = taken n
+punchedTold (Punched.Refused r) = refusal r
