@@ -1,4 +1,4 @@
--- Laws of the crate's definitions, each file named for its subject.
+-- Laws of the crate's definitions, each file named for its subject: those of the round trip, and then those that the functions cite.
 pub mod Ranges
 pub mod Records
 pub mod Refusals
@@ -6,3 +6,9 @@ pub mod PunchedRows
 pub mod Appended
 pub mod PunchedTapes
 pub mod FitRecords
+pub mod Lines
+pub mod DigitTurns
+pub mod Magnitudes
+pub mod DataSteps
+pub mod WordSteps
+pub mod WholeRecords

@@ -2,3 +2,4 @@
 pub mod Rows
 pub mod Fits
 pub mod Answers
+pub mod Line

@@ -11,12 +11,9 @@ fn write_refusal(r: rows::Refusal) {
     write_number(r.place as u64);
 }
 
-// B: number, place and count of the blocks of a spelt tape.
-pub fn count(rest: &[u8], tape: &mut [u8]) {
-    let edition = (number(rest) % 4294967296) as u32;
-    let text = second(rest);
-    let n = rows_of(second(text), tape);
-    match reading::count_blocks(edition, upto_space(text), &tape[0..n]) {
+// Number, place and count of the blocks of a tape.
+pub fn write_count(edition: u32, text: &[u8], tape: &[u8]) {
+    match reading::count_blocks(edition, text, tape) {
         reading::Counted::Blocks(c) => {
             write_number(0);
             write_number(0);
@@ -27,6 +24,14 @@ pub fn count(rest: &[u8], tape: &mut [u8]) {
             write_number(0);
         }
     }
+}
+
+// B: number, place and count of the blocks of a spelt tape.
+pub fn count(rest: &[u8], tape: &mut [u8]) {
+    let edition = (number(rest) % 4294967296) as u32;
+    let text = second(rest);
+    let n = rows_of(second(text), tape);
+    write_count(edition, upto_space(text), &tape[0..n]);
 }
 
 // A dimension, written by its sign and its magnitude.

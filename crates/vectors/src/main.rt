@@ -2,6 +2,7 @@
 // The letter before the first space chooses what is asked; the file stdin says which there are. The proofs here are of safety alone.
 
 mod block_cases;
+mod punch_cases;
 mod row_cases;
 mod shorthand_cases;
 mod speed_cases;
@@ -30,6 +31,10 @@ fn answer_case(asked: u8, rest: &[u8], tape: &mut [u8], blank: &[u8]) {
         b'B' => block_cases::count(rest, tape),
         b'W' => block_cases::block(rest, tape),
         b'P' => block_cases::part(rest, tape),
+        b'H' => punch_cases::head(rest, tape),
+        b'D' => punch_cases::again(rest, tape),
+        b'J' => punch_cases::record(rest, tape),
+        b'Q' => punch_cases::round(rest, tape),
         _ => {}
     }
 }

@@ -1,0 +1,127 @@
+-- A whole record by the tests that judge it, and what the buffer holds after.
+use Prim.Native.Nat.{ℕ, _+_, _^_, _≤_, _<_}
+use mathlib.Core.Path.{_≡_, refl, sym, ap, _∙_}
+use mathlib.Core.Bool.{Bool}
+use mathlib.Core.List.{List, [], _∷_, _++_, append-assoc}
+use native.Mathlib.Nat.{le-of-suc-le-suc, not-suc-le-zero}
+use native.Mathlib.Omega.{arith}
+use borrow.Author.Tests.{lt-ltb, le-ltb, le-leb, lt-leb}
+use lib.Count.{ones}
+use lib.ListN.{length, drop, set, length-append}
+use Rattle.rows.specs.Answer.{Answer, taken, refused, void, valueOr, _>>=_, _>>_}
+use Rattle.shorthand.specs.declared.Format.{Format}
+use Rattle.shorthand.specs.Layout.{itemsOf, emptyFormat}
+use Rattle.shorthand.specs.Parse.{parsed}
+use Rattle.reading.specs.declared.Block.{Block}
+use Rattle.reading.specs.Record.{wordsOf}
+use Rattle.reading.specs.Relation.{skipRows, sequenceRows}
+use Rattle.reading.proofs.DigitRows.{digits-length}
+use Rattle.punching.specs.Rows.{wordRows, blockChars, rowsOf, headRows}
+use Rattle.punching.specs.Fits.{wordsFit, recordFits}
+use Rattle.punching.specs.Answers.{roomFor, blockFor, blockPunched, written, after}
+use Rattle.punching.specs.Line.{joined, behind, wordsFor, rowsFor}
+use Rattle.punching.proofs.Lines.{joined-more, skip-most}
+
+pub head-set : (b : List ℕ) → 2 ≤ length b → set (set b 0 165) 1 10 ≡ headRows ++ drop 2 b
+unfolding ones
+head-set [] h = absurd (not-suc-le-zero h)
+head-set (x ∷ []) h = absurd (not-suc-le-zero (le-of-suc-le-suc h))
+head-set (x ∷ y ∷ b) h = refl
+
+-- ---- a record's rows
+
+pub start-most : (skip alignment : Bool) (d n : ℕ) → d ≤ 9 → length (skipRows skip ++ sequenceRows d alignment n) ≤ 11
+start-most skip alignment d n h = omega (arith, length-append (skipRows skip) (sequenceRows d alignment n), skip-most skip, digits-length d n)
+
+-- the start, the words and the LF, one behind the other
+in-turn : (s q w e : List ℕ) → joined [] (s ++ (q ++ (w ++ e))) ≡ joined (joined (joined [] (s ++ q)) w) e
+in-turn s q w e = ap (joined []) (sym (append-assoc s q (w ++ e))) ∙ joined-more [] (s ++ q) (w ++ e) ∙ joined-more (joined [] (s ++ q)) w e
+
+module _ (f : Format) (b : Block) where
+  abbrev start : List ℕ
+  start = skipRows (b .skip) ++ sequenceRows (f .sequence) (b .alignment) (b .sequence)
+
+  abbrev words : Answer (List ℕ)
+  words = wordsFor 1 (f .dots) (itemsOf f) (wordsOf b)
+
+  pub too-many : 22 < b .count → rowsFor f b ≡ refused 16 23
+  unfolding recordFits
+  too-many h = rw (lt-leb (b .count) 22 h)
+
+  module _ (few : b .count ≤ 22) where
+    pub too-large : 10 ^ f .sequence ≤ b .sequence → rowsFor f b ≡ refused 17 0
+    unfolding recordFits
+    too-large h = rw (le-leb (b .count) 22 few, le-ltb (b .sequence) (10 ^ f .sequence) h)
+
+    module _ (fits : b .sequence < 10 ^ f .sequence) where
+      by-words : rowsFor f b ≡ wordsFit 1 (itemsOf f) (wordsOf b) >> taken (rowsOf f b)
+      unfolding recordFits
+      by-words = rw (le-leb (b .count) 22 few, lt-ltb (b .sequence) (10 ^ f .sequence) fits)
+
+      refusing : (a : Answer (Unit {0})) (p xs ys : List ℕ) (n q : ℕ) → refused n q ≡ behind p (a >> taken xs) → a >> taken ys ≡ refused n q
+      refusing (taken tt) p xs ys n q e = cc
+      refusing (refused m r) p xs ys n q e = sym e
+
+      pub words-refused : (n q : ℕ) → refused n q ≡ behind (joined [] start) words → rowsFor f b ≡ refused n q
+      words-refused n q e = by-words ∙ refusing (wordsFit 1 (itemsOf f) (wordsOf b)) (joined [] start) (wordRows (f .dots) (itemsOf f) (wordsOf b)) (rowsOf f b) n q e
+
+      taking : (a : Answer (Unit {0})) (p xs ys r : List ℕ) → taken r ≡ behind p (a >> taken xs) → ys ≡ joined (joined p xs) (10 ∷ []) → a >> taken ys ≡ taken (joined r (10 ∷ []))
+      taking (taken tt) p xs ys r e h = let g : r ≡ joined p xs = cc in ap taken (h ∙ ap (λ t. joined t (10 ∷ [])) (sym g))
+      taking (refused m q) p xs ys r e h = cc
+
+      pub words-put : (r : List ℕ) → taken r ≡ behind (joined [] start) words → rowsFor f b ≡ taken (joined r (10 ∷ []))
+      unfolding blockChars
+      words-put r e =
+          let w = wordRows (f .dots) (itemsOf f) (wordsOf b) in
+          by-words
+          ∙ taking (wordsFit 1 (itemsOf f) (wordsOf b)) (joined [] start) w (rowsOf f b) r e
+          (in-turn (skipRows (b .skip)) (sequenceRows (f .sequence) (b .alignment) (b .sequence)) w (10 ∷ []))
+
+-- ---- the buffer
+
+module _ (buffer : List ℕ) where
+  pub room-short : (rows : List ℕ) {n : ℕ} → length rows ≡ n → length buffer < n → roomFor buffer rows ≡ refused 19 n
+  room-short rows e h = rw (e, lt-leb _ _ h)
+
+  pub room-there : (rows : List ℕ) {n : ℕ} → length rows ≡ n → n ≤ length buffer → roomFor buffer rows ≡ taken rows
+  room-there rows e h = rw (e, le-leb _ _ h)
+
+  -- a refusal leaves the buffer as it was
+  pub leaves : (a : Answer (List ℕ)) (n q : ℕ) → a ≡ refused n q → (refused n q ≡ written a) × (buffer ≡ after buffer a)
+  leaves a n q e = (rw e, rw e)
+
+  module _ (f : Format) (b : Block) where
+    refusing-block : (a : Answer (Unit {0})) (rows : List ℕ) (n q : ℕ) → a >> taken rows ≡ refused n q → a >> roomFor buffer rows ≡ refused n q
+    refusing-block (taken tt) rows n q e = cc
+    refusing-block (refused m r) rows n q e = e
+
+    pub block-refused : (n q : ℕ) → refused n q ≡ rowsFor f b → blockFor f b buffer ≡ refused n q
+    unfolding blockFor
+    block-refused n q e = refusing-block (recordFits f b) (rowsOf f b) n q (sym e)
+
+    taking-block : (a : Answer (Unit {0})) (rows r : List ℕ) → a >> taken rows ≡ taken r → a >> roomFor buffer rows ≡ roomFor buffer r
+    taking-block (taken tt) rows r e = let g : rows ≡ r = cc in ap (roomFor buffer) g
+    taking-block (refused m q) rows r e = cc
+
+    pub block-rows : (r : List ℕ) → taken r ≡ rowsFor f b → blockFor f b buffer ≡ roomFor buffer r
+    unfolding blockFor
+    block-rows r e = taking-block (recordFits f b) (rowsOf f b) r (sym e)
+
+  -- ---- under an edition and a shorthand
+
+  module _ (e : ℕ) (s : List ℕ) (b : Block) where
+    accepted : (f : Format) (a : Answer Format) → f ≡ valueOr emptyFormat a → void a ≡ taken tt → a >>= (λ g. blockFor g b buffer) ≡ blockFor f b buffer
+    accepted f (taken g) q h = ap (λ x. blockFor x b buffer) (sym q)
+    accepted f (refused n p) q h = cc
+
+    pub under : (f : Format) → f ≡ valueOr emptyFormat (parsed e s) → void (parsed e s) ≡ taken tt → blockPunched e s b buffer ≡ blockFor f b buffer
+    unfolding blockPunched
+    under f q h = accepted f (parsed e s) q h
+
+    barred : (a : Answer Format) (n p : ℕ) → void a ≡ refused n p → a >>= (λ g. blockFor g b buffer) ≡ refused n p
+    barred (taken g) n p h = cc
+    barred (refused m q) n p h = let k : m ≡ n = cc in let l : q ≡ p = cc in rw (k, l)
+
+    pub under-refused : (n p : ℕ) → void (parsed e s) ≡ refused n p → blockPunched e s b buffer ≡ refused n p
+    unfolding blockPunched
+    under-refused n p h = barred (parsed e s) n p h
