@@ -1,0 +1,2 @@
+-- What the door hands back for an answer.
+pub mod Replies

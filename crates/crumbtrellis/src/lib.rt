@@ -1,0 +1,150 @@
+// The C door: block counts, speed coding and the head, on numbers and byte slices. include/crumbtrellis.h tells a C host how to call it.
+ghost use mathlib.Core.Path.{_≡_};
+ghost use Rattle.rows.specs.Answer.{taken, refusal, numberOf, placeOf, valueOr};
+ghost use Rattle.speeds.specs.Meaning.{speedFor};
+ghost use Rattle.speeds.specs.Coding.{speedTold, codeTold, codeFor};
+ghost use Rattle.reading.specs.Front.{countTold};
+ghost use Rattle.reading.specs.Answers.{counted};
+ghost use Rattle.punching.specs.Answers.{punchedTold, headPunched, written, after};
+ghost use Rattle.crumbtrellis.specs.Replies.{Says};
+use punching::Punched;
+use reading::Counted;
+use rows::Refusal;
+use speeds::Code;
+use speeds::Speed;
+
+// What a C host is handed for an answer: the number returned, and what is left at `place` and at `value`.
+struct Reply {
+    pub number: u32,
+    pub place: u64,
+    pub value: u64,
+}
+
+fn accept(value: u64) -> Reply
+    ensures { λ r. ⌜ Says (taken value) r ⌝ }
+{
+    Reply {
+        number: 0,
+        place: 0,
+        value,
+    }
+}
+
+fn refuse(refused: Refusal) -> Reply
+    ensures { λ r. ⌜ Says (refusal refused) r ⌝ }
+{
+    Reply {
+        number: refused.number,
+        place: refused.place as u64,
+        value: 0,
+    }
+}
+
+fn tell_count(answer: Counted) -> Reply
+    ensures { λ r. ⌜ Says (countTold answer) r ⌝ }
+{
+    match answer {
+        Counted::Blocks(n) => accept(n as u64),
+        Counted::Refused(r) => refuse(r),
+    }
+}
+
+fn tell_speed(answer: Speed) -> Reply
+    ensures { λ r. ⌜ Says (speedTold answer) r ⌝ }
+{
+    match answer {
+        Speed::Units(v) => accept(v),
+        Speed::Refused(r) => refuse(r),
+    }
+}
+
+fn tell_code(answer: Code) -> Reply
+    ensures { λ r. ⌜ Says (codeTold answer) r ⌝ }
+{
+    match answer {
+        Code::Number(c) => accept(c),
+        Code::Refused(r) => refuse(r),
+    }
+}
+
+fn tell_rows(answer: Punched) -> Reply
+    ensures { λ r. ⌜ Says (punchedTold answer) r ⌝ }
+{
+    match answer {
+        Punched::Rows(n) => accept(n as u64),
+        Punched::Refused(r) => refuse(r),
+    }
+}
+
+// The number of blocks of a tape.
+#[no_mangle]
+pub extern "C" fn crumbtrellis_count_blocks(
+    edition: u32,
+    shorthand: &[u8],
+    tape: &[u8],
+    place: &mut u64,
+    value: &mut u64,
+) -> u32
+    ensures number { λ r. ⌜ r ≡ numberOf (counted edition (now (shorthand .entry)) (now (tape .entry))) ⌝ }
+    ensures place { λ r. ⌜ now (place .exit) ≡ placeOf (counted edition (now (shorthand .entry)) (now (tape .entry))) ⌝ }
+    ensures value { λ r. ⌜ now (value .exit) ≡ valueOr 0 (counted edition (now (shorthand .entry)) (now (tape .entry))) ⌝ }
+{
+    let reply = tell_count(reading::count_blocks(edition, shorthand, tape));
+    *place = reply.place;
+    *value = reply.value;
+    reply.number
+}
+
+// The speed that a code means, in ten-millionths.
+#[no_mangle]
+pub extern "C" fn crumbtrellis_speed_of(
+    digits: u32,
+    code: u64,
+    place: &mut u64,
+    value: &mut u64,
+) -> u32
+    ensures number { λ r. ⌜ r ≡ numberOf (speedFor digits code) ⌝ }
+    ensures place { λ r. ⌜ now (place .exit) ≡ placeOf (speedFor digits code) ⌝ }
+    ensures value { λ r. ⌜ now (value .exit) ≡ valueOr 0 (speedFor digits code) ⌝ }
+{
+    let reply = tell_speed(speeds::speed_of(digits, code));
+    *place = reply.place;
+    *value = reply.value;
+    reply.number
+}
+
+// A speed's code, the speed rounded.
+#[no_mangle]
+pub extern "C" fn crumbtrellis_code_of(
+    digits: u32,
+    speed: u64,
+    place: &mut u64,
+    value: &mut u64,
+) -> u32
+    ensures number { λ r. ⌜ r ≡ numberOf (codeFor digits speed) ⌝ }
+    ensures place { λ r. ⌜ now (place .exit) ≡ placeOf (codeFor digits speed) ⌝ }
+    ensures value { λ r. ⌜ now (value .exit) ≡ valueOr 0 (codeFor digits speed) ⌝ }
+{
+    let reply = tell_code(speeds::code_of(digits, speed));
+    *place = reply.place;
+    *value = reply.value;
+    reply.number
+}
+
+// "%" and LF at the front of the buffer; the value is the number of rows.
+#[no_mangle]
+pub extern "C" fn crumbtrellis_punch_head(
+    buffer: &mut [u8],
+    place: &mut u64,
+    value: &mut u64,
+) -> u32
+    ensures buffer { λ r. ⌜ now (buffer .exit) ≡ after (now (buffer .entry)) (headPunched (now (buffer .entry))) ⌝ }
+    ensures number { λ r. ⌜ r ≡ numberOf (written (headPunched (now (buffer .entry)))) ⌝ }
+    ensures place { λ r. ⌜ now (place .exit) ≡ placeOf (written (headPunched (now (buffer .entry)))) ⌝ }
+    ensures value { λ r. ⌜ now (value .exit) ≡ valueOr 0 (written (headPunched (now (buffer .entry)))) ⌝ }
+{
+    let reply = tell_rows(punching::punch_head(buffer));
+    *place = reply.place;
+    *value = reply.value;
+    reply.number
+}
