@@ -7,8 +7,9 @@ use native.Mathlib.Nat.{le-of-suc-le-suc, not-suc-le-zero}
 use native.Mathlib.Omega.{arith}
 use borrow.Author.Tests.{lt-ltb, le-ltb, le-leb, lt-leb}
 use lib.Count.{ones}
-use lib.ListN.{length, drop, set, length-append}
-use Rattle.rows.specs.Answer.{Answer, taken, refused, void, valueOr, _>>=_, _>>_}
+use lib.ListN.{length, take, drop, set, length-append}
+use lib.Seq.{length-take-le, take-length}
+use Rattle.rows.specs.Answer.{Answer, taken, refused, refusal, void, valueOr, _>>=_, _>>_}
 use Rattle.shorthand.specs.declared.Format.{Format}
 use Rattle.shorthand.specs.Layout.{itemsOf, emptyFormat}
 use Rattle.shorthand.specs.Parse.{parsed}
@@ -16,10 +17,12 @@ use Rattle.reading.specs.declared.Block.{Block}
 use Rattle.reading.specs.Record.{wordsOf}
 use Rattle.reading.specs.Relation.{skipRows, sequenceRows}
 use Rattle.reading.proofs.DigitRows.{digits-length}
+use Rattle.punching.specs.declared.Grown.{Grown}
+use Rattle.punching.specs.declared.Grown.the-variants.{To}
 use Rattle.punching.specs.Rows.{wordRows, blockChars, rowsOf, headRows}
 use Rattle.punching.specs.Fits.{wordsFit, recordFits}
 use Rattle.punching.specs.Answers.{roomFor, blockFor, blockPunched, written, after}
-use Rattle.punching.specs.Line.{joined, behind, wordsFor, rowsFor}
+use Rattle.punching.specs.Line.{joined, behind, wordsFor, rowsFor, grownTold, endOf}
 use Rattle.punching.proofs.Lines.{joined-more, skip-most}
 
 pub head-set : (b : List ℕ) → 2 ≤ length b → set (set b 0 165) 1 10 ≡ headRows ++ drop 2 b
@@ -79,33 +82,54 @@ module _ (f : Format) (b : Block) where
 
 -- ---- the buffer
 
+-- what composing a line answered, by the number of its rows
+abbrev pub countTold : Grown → Answer ℕ
+countTold (To n) = taken n
+countTold (Grown.Refused r) = refusal r
+
 module _ (buffer : List ℕ) where
-  pub room-short : (rows : List ℕ) {n : ℕ} → length rows ≡ n → length buffer < n → roomFor buffer rows ≡ refused 19 n
+  room-short : (rows : List ℕ) {n : ℕ} → length rows ≡ n → length buffer < n → roomFor buffer rows ≡ refused 19 n
   room-short rows e h = rw (e, lt-leb _ _ h)
 
-  pub room-there : (rows : List ℕ) {n : ℕ} → length rows ≡ n → n ≤ length buffer → roomFor buffer rows ≡ taken rows
+  room-there : (rows : List ℕ) {n : ℕ} → length rows ≡ n → n ≤ length buffer → roomFor buffer rows ≡ taken rows
   room-there rows e h = rw (e, le-leb _ _ h)
 
   -- a refusal leaves the buffer as it was
   pub leaves : (a : Answer (List ℕ)) (n q : ℕ) → a ≡ refused n q → (refused n q ≡ written a) × (buffer ≡ after buffer a)
   leaves a n q e = (rw e, rw e)
 
+  -- the first n rows of a line copied into the buffer
+  pub copied : (l t : List ℕ) {n m : ℕ} → n ≡ m → m ≤ length l → t ≡ take (length (take n l)) (take n l) ++ drop (length (take n l)) buffer → t ≡ take m l ++ drop m buffer
+  copied l t {n} {m} e s q = q ∙ rw (take-length (take n l), e, length-take-le m l s)
+
   module _ (f : Format) (b : Block) where
     refusing-block : (a : Answer (Unit {0})) (rows : List ℕ) (n q : ℕ) → a >> taken rows ≡ refused n q → a >> roomFor buffer rows ≡ refused n q
     refusing-block (taken tt) rows n q e = cc
     refusing-block (refused m r) rows n q e = e
 
-    pub block-refused : (n q : ℕ) → refused n q ≡ rowsFor f b → blockFor f b buffer ≡ refused n q
-    unfolding blockFor
-    block-refused n q e = refusing-block (recordFits f b) (rowsOf f b) n q (sym e)
-
     taking-block : (a : Answer (Unit {0})) (rows r : List ℕ) → a >> taken rows ≡ taken r → a >> roomFor buffer rows ≡ roomFor buffer r
     taking-block (taken tt) rows r e = let g : rows ≡ r = cc in ap (roomFor buffer) g
     taking-block (refused m q) rows r e = cc
 
-    pub block-rows : (r : List ℕ) → taken r ≡ rowsFor f b → blockFor f b buffer ≡ roomFor buffer r
+    block-rows : (r : List ℕ) → taken r ≡ rowsFor f b → blockFor f b buffer ≡ roomFor buffer r
     unfolding blockFor
     block-rows r e = taking-block (recordFits f b) (rowsOf f b) r (sym e)
+
+    block-refused : (n q : ℕ) → refused n q ≡ rowsFor f b → blockFor f b buffer ≡ refused n q
+    unfolding blockFor
+    block-refused n q e = refusing-block (recordFits f b) (rowsOf f b) n q (sym e)
+
+    -- by what composing the line answered: 19 where its rows find no room, which a refused record never is
+    pub no-room : (l : List ℕ) (g : Grown) → grownTold l g ≡ rowsFor f b → endOf g ≤ length l → length buffer < endOf g → blockFor f b buffer ≡ refused 19 (endOf g)
+    no-room l (To n) e s h = block-rows (take n l) e ∙ room-short (take n l) (length-take-le n l s) h
+    no-room l (Grown.Refused r) e s h = absurd (not-suc-le-zero h)
+
+    pub finds-room : (l : List ℕ) (g : Grown) → grownTold l g ≡ rowsFor f b → endOf g ≤ length l → endOf g ≤ length buffer → (countTold g ≡ written (blockFor f b buffer)) × (take (endOf g) l ++ drop (endOf g) buffer ≡ after buffer (blockFor f b buffer))
+    finds-room l (To n) e s h =
+        let k = length-take-le n l s in
+        let q = block-rows (take n l) e ∙ room-there (take n l) k h in
+        (rw (q, k), rw (q, k))
+    finds-room l (Grown.Refused r) e s h = leaves (blockFor f b buffer) (r .number) (r .place) (block-refused (r .number) (r .place) e)
 
   -- ---- under an edition and a shorthand
 

@@ -2,6 +2,7 @@
 ghost use mathlib.Core.Path.{_≡_};
 ghost use Rattle.shorthand.specs.Facts.{Facts};
 ghost use Rattle.punching.specs.Answers.{headPunched, blockFor, blockPunched, written, after, punchedTold};
+ghost use Rattle.punching.specs.Line.{endOf};
 
 mod line;
 mod words;
@@ -49,24 +50,34 @@ pub fn punch_head(buffer: &mut [u8]) -> Punched
     Punched::Rows(2)
 }
 
-// A block under a Format: the line is composed whole before the buffer is touched.
+// How many rows a line has for the buffer: none of a record that is refused.
+fn rows_in(grown: Grown) -> usize
+    ensures { λ r. ⌜ r ≡ endOf grown ⌝ }
+{
+    match grown {
+        Grown::To(count) => count,
+        Grown::Refused(_) => 0,
+    }
+}
+
+// A block under a Format: the line is composed whole before the buffer is touched, and 19 is given only where the record itself is not refused.
 fn punch_under(format: Format, block: Block, buffer: &mut [u8]) -> Punched
     requires { ⌜ Facts format ⌝ }
     ensures rows { λ r. ⌜ punchedTold r ≡ written (blockFor format block (now (buffer .entry))) ⌝ }
     ensures buffer { λ r. ⌜ now (buffer .exit) ≡ after (now (buffer .entry)) (blockFor format block (now (buffer .entry))) ⌝ }
 {
     let mut line = [0u8; LINE];
-    match compose_block(&mut line, format, block) {
-        Grown::To(count) => {
-            if buffer.len() < count {
-                return Punched::Refused(Refusal {
-                    number: 19,
-                    place: count,
-                });
-            }
-            bytes::copy(&line[..count], buffer);
-            Punched::Rows(count)
-        }
+    let grown = compose_block(&mut line, format, block);
+    let count = rows_in(grown);
+    if buffer.len() < count {
+        return Punched::Refused(Refusal {
+            number: 19,
+            place: count,
+        });
+    }
+    bytes::copy(&line[..count], buffer);
+    match grown {
+        Grown::To(_) => Punched::Rows(count),
         Grown::Refused(r) => Punched::Refused(r),
     }
 }

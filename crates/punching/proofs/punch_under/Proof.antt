@@ -2,14 +2,14 @@
 use borrow.Author.Needs.{needs}
 use mathlib.Core.Path.{_≡_, _∙_, sym, ap}
 use native.Mathlib.Omega.{arith}
-use Prim.Native.Nat.{ℕ, _≤_}
-use mathlib.Core.List.{List, _++_}
-use lib.ListN.{length, take, drop}
-use lib.Seq.{length-take-le, take-length}
+use Prim.Native.Nat.{_≤_}
+use lib.ListN.{length, take}
+use denote.Ref.{now}
+use lib.Seq.{length-take-le}
 use Rattle.rows.specs.Answer.{taken}
-use Rattle.punching.specs.Answers.{roomFor, blockFor}
-use Rattle.punching.specs.Line.{grownTold}
-use Rattle.punching.proofs.WholeRecords.{room-short, room-there, leaves, block-refused, block-rows}
+use Rattle.punching.specs.Answers.{blockFor, written, after}
+use Rattle.punching.specs.Line.{endOf}
+use Rattle.punching.proofs.WholeRecords.{countTold, leaves, copied, no-room, finds-room}
 use Rattle.punching.proofs.punch_under.Statement.{statement}
 use Rattle.punching.proofs.punch_under.Tie as tie
 
@@ -19,27 +19,24 @@ slice-aggregate-compose-block c = search needs
 compose-block-requires : tie.Need-compose-block-requires
 compose-block-requires c κs = search needs
 
-enum-known-count : tie.Need-enum-known-count
-enum-known-count c = search needs
+rows-in-requires : tie.Need-rows-in-requires
+rows-in-requires c κs = search needs
 
--- the rows that stand in the line, as many as composing it answered
-abbrev standing : tie.After-known-told → List ℕ
-standing c = take (c .before .count .given .0 .0) (c .before .before .before .before .compose-block .last .0)
+-- the rows stand in the line
+stand : (c : tie.After-rows-in) → endOf (c .before .before .compose-block .result) ≤ length (c .before .before .compose-block .last .0)
+stand c = omega (arith, c .before .before .compose-block .ensures .1, c .before .before .compose-block .kept .0)
 
-filled : (c : tie.After-known-told) → c .before .count .given .0 .0 ≤ length (c .before .before .before .before .compose-block .last .0)
-filled c = omega (arith, rw (c .before .count .given .1) at (c .before .before .before .before .compose-block .ensures .1), c .before .before .before .before .compose-block .kept .0)
-
-counted : (c : tie.After-known-told) → length (standing c) ≡ c .before .count .given .0 .0
-counted c = length-take-le _ _ (filled c)
-
-composed : (c : tie.After-known-told) → blockFor (c .before .before .before .before .before .before .before .args .format) (c .before .before .before .before .before .before .before .args .block) (c .before .before .before .before .before .before .before .args .buffer .now) ≡ roomFor (c .before .before .before .before .before .before .before .args .buffer .now) (standing c)
-composed c = block-rows _ _ _ _ (ap (grownTold (c .before .before .before .before .compose-block .last .0)) (sym (c .before .count .given .1)) ∙ c .before .before .before .before .compose-block .ensures .0)
+counted : (c : tie.After-rows-in) → length (take (c .rows-in .result) (c .before .before .compose-block .last .0)) ≡ c .rows-in .result
+counted c = length-take-le _ _ (omega (arith, stand c, c .rows-in .ensures))
 
 returns : tie.Need-returns
-returns c = leaves _ _ _ _ (composed (c .before) ∙ room-short (c .before .before .before .before .before .before .before .before .args .buffer .now) (standing (c .before)) (counted (c .before)) (c .if1 .taken))
+returns c =
+    let a = c .before .before .before .before .before .before .args in
+    let k = c .before .before .before .compose-block in
+    rw (c .before .rows-in .ensures) (leaves (now (a .buffer)) _ _ _ (no-room (now (a .buffer)) (a .format) (a .block) (k .last .0) (k .result) (k .ensures .0) (stand (c .before)) (omega (arith, c .before .rows-in .ensures, c .if1 .taken))))
 
 array-share-prefix-line : tie.Need-array-share-prefix-line
-array-share-prefix-line c = omega (arith, filled (c .before))
+array-share-prefix-line c = search needs
 
 slice-aggregate-copy : tie.Need-slice-aggregate-copy
 slice-aggregate-copy c = omega (arith, counted (c .before .before))
@@ -47,21 +44,37 @@ slice-aggregate-copy c = omega (arith, counted (c .before .before))
 copy-requires : tie.Need-copy-requires
 copy-requires c κs = omega (arith, counted (c .before .before .before), c .before .before .if1 .left)
 
-enum-known-r : tie.Need-enum-known-r
-enum-known-r c = search needs
+enum-told : tie.Need-enum-told
+enum-told c = search needs
+
+enum-known-grown : tie.Need-enum-known-grown
+enum-known-grown c = search needs
 
 same-length : tie.Need-same-length
 same-length c = search needs
 
+-- the answer and the buffer, where there is room
+written-there : (c : tie.After-slice-known2) →
+    let a = c .before .before .before .before .before .before .before .before .before .before .before .args in
+    (countTold (c .before .before .before .before .before .before .before .before .compose-block .result) ≡ written (blockFor (a .format) (a .block) (now (a .buffer)))) × (c .before .before .copy .last .1 .0 ≡ after (now (a .buffer)) (blockFor (a .format) (a .block) (now (a .buffer))))
+written-there c =
+    let a = c .before .before .before .before .before .before .before .before .before .before .before .args in
+    let k = c .before .before .before .before .before .before .before .before .compose-block in
+    let r = c .before .before .before .before .before .before .rows-in .ensures in
+    let h = finds-room (now (a .buffer)) (a .format) (a .block) (k .last .0) (k .result) (k .ensures .0) (stand (c .before .before .before .before .before .before)) (omega (arith, r, c .before .before .before .before .before .if1 .left)) in
+    (h .0, copied (now (a .buffer)) (k .last .0) _ r (stand (c .before .before .before .before .before .before)) (c .before .before .copy .ensures .1) ∙ h .1)
+
 returns-2 : tie.Need-returns-2
 returns-2 c =
-    let buffer = c .before .before .before .before .before .before .before .before .before .before .before .before .before .args .buffer .now in
-    let rows = standing (c .before .before .before .before .before .before) in
-    let e = composed (c .before .before .before .before .before .before) ∙ room-there buffer rows (counted (c .before .before .before .before .before .before)) (c .before .before .before .before .before .if1 .left) in
-    (rw e (ap taken (sym (counted (c .before .before .before .before .before .before)))), rw e (c .before .before .copy .ensures .1 ∙ ap (λ r. r ++ drop (length rows) buffer) (take-length rows)))
+    let h = written-there (c .before .before) in
+    let e = c .enum-told .given .1 in
+    (ap taken (c .before .before .before .before .before .before .before .before .rows-in .ensures ∙ ap endOf e) ∙ ap countTold (sym e) ∙ h .0, h .1)
+
+same-length-2 : tie.Need-same-length-2
+same-length-2 c = search needs
 
 returns-3 : tie.Need-returns-3
-returns-3 c = leaves _ _ _ _ (block-refused _ _ _ _ _ (ap (grownTold (c .before .before .before .before .compose-block .last .0)) (sym (c .before .r .given .1)) ∙ c .before .before .before .before .compose-block .ensures .0))
+returns-3 c = let h = written-there (c .before .before .before) in (ap countTold (sym (c .before .grown .given .1)) ∙ h .0, h .1)
 
 pub punch-under-spec : {M : Type 1} → statement M
 punch-under-spec =
@@ -69,12 +82,14 @@ punch-under-spec =
     (tie.spec
     slice-aggregate-compose-block
     compose-block-requires
-    enum-known-count
+    rows-in-requires
     returns
     array-share-prefix-line
     slice-aggregate-copy
     copy-requires
-    enum-known-r
+    enum-told
+    enum-known-grown
     same-length
     returns-2
+    same-length-2
     returns-3)
