@@ -119,7 +119,8 @@ fn with_sign(minus: bool, m: u64) -> i64
     ensures { λ r. ⌜ r ≡ signedValue minus m ⌝ }
 {
     let v = m as i64;
-    if minus { 0 - v } else { v }
+    let negative = 0 - v;
+    if minus { negative } else { v }
 }
 
 // What the figures of a word mean, whose address stands at a row.

@@ -9,14 +9,14 @@ use Rattle.reading.proofs.datum.with_sign.Tie as tie
 cast-v : tie.Need-cast-v
 cast-v c = search needs
 
-sub-result : tie.Need-sub-result
-sub-result c = negative-fits (c .before .args .m) (c .before .pre)
+sub-negative : tie.Need-sub-negative
+sub-negative c = negative-fits (c .args .m) (c .pre)
 
 returns : tie.Need-returns
-returns c = rw (c .if1 .taken) (toZ-ofZ (sub-result c) ∙ negative (c .before .args .m) (c .before .pre))
+returns c = rw (c .if1 .taken) (toZ-ofZ (sub-negative (c .before)) ∙ negative (c .before .args .m) (c .before .pre))
 
 returns-2 : tie.Need-returns-2
 returns-2 c = rw (c .if1 .left) (positive (c .before .args .m) (c .before .pre))
 
 pub with-sign-spec : {M : Type 1} → statement M
-with-sign-spec = tie.close (tie.spec cast-v sub-result returns returns-2)
+with-sign-spec = tie.close (tie.spec cast-v sub-negative returns returns-2)
