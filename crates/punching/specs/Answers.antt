@@ -1,7 +1,7 @@
 -- What punching answers and leaves in the buffer: 1, 2 and 3, the record, then 19 (document 01, "Refusal numbers").
 use Prim.Native.Nat.{ℕ}
 use mathlib.Core.Bool.{cond}
-use mathlib.Core.List.{List, [], _++_}
+use mathlib.Core.List.{List, _++_}
 use lib.Dec.{leb}
 use lib.ListN.{length, drop}
 use Rattle.rows.specs.Answer.{Answer, taken, refused, refusal, _>>=_, _>>_}

@@ -1,9 +1,9 @@
 -- Which records are refused, and where (document 01, refusals 16, 17, 18 and the order of punching).
 use Prim.Native.Nat.{ℕ, suc, _^_}
-use mathlib.Core.Bool.{Bool, true, false, _&&_, not, cond}
+use mathlib.Core.Bool.{Bool, _&&_, not, cond}
 use mathlib.Core.List.{List, [], _∷_}
 use lib.Dec.{eqb, leb, ltb}
-use lib.IntN.{ℤ, natAbs}
+use lib.IntN.{natAbs}
 use Rattle.rows.specs.Answer.{Answer, taken, refused, _>>_}
 use Rattle.speeds.specs.declared.Exact.{Exact}
 use Rattle.speeds.specs.declared.Exact.the-variants.{Inexact, Means}
@@ -12,7 +12,7 @@ use Rattle.shorthand.specs.declared.Kind.{Kind}
 use Rattle.shorthand.specs.declared.Kind.the-variants.{Plain}
 use Rattle.shorthand.specs.declared.Item.{Item}
 use Rattle.shorthand.specs.declared.Format.{Format}
-use Rattle.shorthand.specs.Layout.{itemsOf, width, Sign, barred, required, optional, signOf}
+use Rattle.shorthand.specs.Layout.{itemsOf, width, signOf}
 use Rattle.reading.specs.declared.Value.{Value}
 use Rattle.reading.specs.declared.Value.the-variants.{Number}
 use Rattle.reading.specs.declared.Word.{Word}
