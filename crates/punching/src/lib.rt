@@ -7,6 +7,7 @@ ghost use Rattle.punching.specs.Line.{endOf};
 mod line;
 mod words;
 
+pub use line::magnitude_of;
 use reading::Block;
 use rows::Checked;
 use rows::Refusal;
@@ -26,7 +27,7 @@ enum Grown {
 }
 
 // An integer's sign and magnitude.
-struct Magnitude {
+pub struct Magnitude {
     pub minus: bool,
     pub size: u64,
 }

@@ -1,0 +1,64 @@
+-- The lines of a listing (document 01, "The listing program"): fields with one space between them, each line ended by LF.
+use Prim.Native.Nat.{ℕ, zero, suc, _+_, _-_, _/_, _%_}
+use Prim.Native.Char.{code}
+use Prim.Native.String.{String, [] as end, _∷_ as _then_}
+use mathlib.Core.Bool.{cond}
+use mathlib.Core.List.{List, [], _∷_, _++_}
+use lib.Dec.{ltb}
+use lib.IntN.{natAbs}
+use lib.ListN.{length}
+use Rattle.reading.specs.declared.Value.{Value}
+use Rattle.reading.specs.declared.Value.the-variants.{Number, Dimension, Speed}
+use Rattle.reading.specs.declared.Word.{Word}
+use Rattle.reading.specs.declared.Block.{Block}
+use Rattle.reading.specs.Record.{wordsOf}
+use Rattle.reading.specs.Relation.{zeros}
+use Rattle.punching.specs.Rows.{minus}
+
+-- ASCII
+abbrev pub text : String → List ℕ
+text end = []
+text (c then s) = code c ∷ text s
+
+-- a number in plain decimal, no zero in front, by its last n digits at most
+unfoldable pub decimalIn : ℕ → ℕ → List ℕ
+decimalIn zero v = []
+decimalIn (suc n) v = cond (ltb v 10) ((48 + v) ∷ []) (decimalIn n (v / 10) ++ ((48 + v % 10) ∷ []))
+
+-- 20 digits hold every number of 64 bits
+abbrev pub decimal : ℕ → List ℕ
+decimal v = decimalIn 20 v
+
+-- at full length: zeros in front up to n digits
+abbrev pub full : ℕ → ℕ → List ℕ
+full n v = zeros (n - length (decimal v)) ++ decimal v
+
+-- plain decimal, a minus before a negative dimension; speeds in units
+abbrev pub valueText : Value → List ℕ
+valueText (Number v) = decimal v
+valueText (Dimension z) = cond (minus z) (45 ∷ []) [] ++ decimal (natAbs z)
+valueText (Speed v) = decimal v
+
+-- a space, the letter, the value
+abbrev pub wordText : Word → List ℕ
+wordText w = 32 ∷ w .letter ∷ valueText (w .value)
+
+abbrev pub wordsText : List Word → List ℕ
+wordsText [] = []
+wordsText (w ∷ ws) = wordText w ++ wordsText ws
+
+-- N or ":", the sequence number at its full n digits, "/" or "-"
+abbrev pub startText : ℕ → Block → List ℕ
+startText n b = (cond (b .alignment) 58 78 ∷ 32 ∷ []) ++ (full n (b .sequence) ++ (32 ∷ cond (b .skip) 47 45 ∷ []))
+
+-- the line of a block under a shorthand whose N item has n digits
+abbrev pub blockLine : ℕ → Block → List ℕ
+blockLine n b = startText n b ++ (wordsText (wordsOf b) ++ (10 ∷ []))
+
+-- the last line counts the blocks
+abbrev pub countLine : ℕ → List ℕ
+countLine n = text "blocks " ++ (decimal n ++ (10 ∷ []))
+
+-- a refusal's one line: its number and place
+abbrev pub refusalLine : ℕ → ℕ → List ℕ
+refusalLine n p = text "refused " ++ (decimal n ++ (32 ∷ (decimal p ++ (10 ∷ []))))

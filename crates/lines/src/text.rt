@@ -1,0 +1,195 @@
+// Text put into a line: each put writes behind what stands, and answers the place behind it.
+ghost use mathlib.Core.Path.{_≡_};
+ghost use mathlib.Core.Bool.{cond};
+ghost use mathlib.Core.List.{[], _∷_};
+ghost use Prim.Native.Nat.{_+_, _-_, _≤_, _<_};
+ghost use lib.ListN.{length};
+ghost use Rattle.reading.specs.Record.{wordsOf};
+ghost use Rattle.reading.specs.Relation.{zeros};
+ghost use Rattle.reading.specs.declared.Value.the-variants.{Dimension};
+ghost use Rattle.lines.specs.Text.{decimal, full, valueText, wordText, wordsText, startText, countLine, refusalLine};
+ghost use Rattle.lines.specs.Line.{Put, closing};
+use punching::magnitude_of;
+use reading::Block;
+use reading::Counted;
+use reading::Value;
+use reading::Word;
+use rows::Refusal;
+
+pub fn put(line: &mut [u8], at: usize, b: u8) -> usize
+    requires { ⌜ at < length (now line) ⌝ }
+    ensures { λ r. ⌜ Put (now (line .entry)) at (b ∷ []) (now (line .exit)) r ⌝ }
+{
+    line[at] = b;
+    at + 1
+}
+
+pub fn put_all(line: &mut [u8], start: usize, text: &[u8]) -> usize
+    requires { ⌜ start + length (now text) ≤ length (now line) ⌝ }
+    ensures { λ r. ⌜ Put (now (line .entry)) start (now (text .entry)) (now (line .exit)) r ⌝ }
+{
+    let mut at = start;
+    let mut i = 0;
+    while i < text.len() {
+        at = put(line, at, text[i]);
+        i += 1;
+    }
+    at
+}
+
+fn put_zeros(line: &mut [u8], start: usize, n: usize) -> usize
+    requires { ⌜ start + n ≤ length (now line) ⌝ }
+    ensures { λ r. ⌜ Put (now (line .entry)) start (zeros n) (now (line .exit)) r ⌝ }
+{
+    let mut at = start;
+    let mut left = n;
+    while 0 < left {
+        at = put(line, at, 48);
+        left -= 1;
+    }
+    at
+}
+
+// A number in plain decimal.
+pub fn put_decimal(line: &mut [u8], at: usize, v: u64) -> usize
+    requires { ⌜ at + 20 ≤ length (now line) ⌝ }
+    ensures put { λ r. ⌜ Put (now (line .entry)) at (decimal v) (now (line .exit)) r ⌝ }
+    ensures end { λ r. ⌜ r ≤ at + 20 ⌝ }
+{
+    let mut digits = [0u8; 20];
+    let count = io::decimal(v, &mut digits);
+    put_all(line, at, &digits[..count])
+}
+
+// How many of n are still missing.
+fn still(n: usize, count: usize) -> usize
+    ensures { λ r. ⌜ r ≡ n - count ⌝ }
+{
+    if count < n { n - count } else { 0 }
+}
+
+// The same with zeros in front up to n digits.
+fn put_full(line: &mut [u8], at: usize, n: u8, v: u64) -> usize
+    requires { ⌜ at + 255 ≤ length (now line) ⌝ }
+    ensures put { λ r. ⌜ Put (now (line .entry)) at (full n v) (now (line .exit)) r ⌝ }
+    ensures end { λ r. ⌜ r ≤ at + 255 ⌝ }
+{
+    let mut digits = [0u8; 20];
+    let count = io::decimal(v, &mut digits);
+    let next = put_zeros(line, at, still(n as usize, count));
+    put_all(line, next, &digits[..count])
+}
+
+// A minus before a negative number.
+fn put_sign(line: &mut [u8], at: usize, minus: bool) -> usize
+    requires { ⌜ at < length (now line) ⌝ }
+    ensures { λ r. ⌜ Put (now (line .entry)) at (cond minus (45 ∷ []) []) (now (line .exit)) r ⌝ }
+{
+    if minus { put(line, at, 45) } else { at }
+}
+
+fn put_dimension(line: &mut [u8], at: usize, z: i64) -> usize
+    requires { ⌜ at + 21 ≤ length (now line) ⌝ }
+    ensures put { λ r. ⌜ Put (now (line .entry)) at (valueText (Dimension z)) (now (line .exit)) r ⌝ }
+    ensures end { λ r. ⌜ r ≤ at + 21 ⌝ }
+{
+    let m = magnitude_of(z);
+    let next = put_sign(line, at, m.minus);
+    put_decimal(line, next, m.size)
+}
+
+fn put_value(line: &mut [u8], at: usize, value: Value) -> usize
+    requires { ⌜ at + 21 ≤ length (now line) ⌝ }
+    ensures put { λ r. ⌜ Put (now (line .entry)) at (valueText value) (now (line .exit)) r ⌝ }
+    ensures end { λ r. ⌜ r ≤ at + 21 ⌝ }
+{
+    match value {
+        Value::Number(v) => put_decimal(line, at, v),
+        Value::Dimension(z) => put_dimension(line, at, z),
+        Value::Speed(v) => put_decimal(line, at, v),
+    }
+}
+
+// A space, the letter and the value.
+fn put_word(line: &mut [u8], at: usize, word: Word) -> usize
+    requires { ⌜ at + 23 ≤ length (now line) ⌝ }
+    ensures put { λ r. ⌜ Put (now (line .entry)) at (wordText word) (now (line .exit)) r ⌝ }
+    ensures end { λ r. ⌜ r ≤ at + 23 ⌝ }
+{
+    let value = word.value;
+    let next = put(line, at, 32);
+    let then = put(line, next, word.letter);
+    put_value(line, then, value)
+}
+
+// The words of a block, 22 at most whatever its count says.
+pub fn put_words(line: &mut [u8], start: usize, block: Block) -> usize
+    requires { ⌜ start + 506 ≤ length (now line) ⌝ }
+    ensures put { λ r. ⌜ Put (now (line .entry)) start (wordsText (wordsOf block)) (now (line .exit)) r ⌝ }
+    ensures end { λ r. ⌜ r ≤ start + 506 ⌝ }
+{
+    let mut at = start;
+    let mut i: usize = 0;
+    while i < 22 {
+        if block.count <= i {
+            return at;
+        }
+        let word = block.words[i];
+        at = put_word(line, at, word);
+        i += 1;
+    }
+    at
+}
+
+fn either(first: bool, a: u8, b: u8) -> u8
+    ensures { λ r. ⌜ r ≡ cond first a b ⌝ }
+{
+    if first { a } else { b }
+}
+
+// N or ":", the sequence number, and "/" or "-".
+pub fn put_start(line: &mut [u8], digits: u8, block: Block) -> usize
+    requires { ⌜ 259 ≤ length (now line) ⌝ }
+    ensures put { λ r. ⌜ Put (now (line .entry)) 0 (startText digits block) (now (line .exit)) r ⌝ }
+    ensures end { λ r. ⌜ r ≤ 259 ⌝ }
+{
+    let at = put(line, 0, either(block.alignment, 58, 78));
+    let number = put(line, at, 32);
+    let next = put_full(line, number, digits, block.sequence);
+    let mark = put(line, next, 32);
+    put(line, mark, either(block.skip, 47, 45))
+}
+
+// The count of the blocks, or the refusal.
+pub fn put_closing(line: &mut [u8], count: Counted) -> usize
+    requires { ⌜ 768 ≤ length (now line) ⌝ }
+    ensures put { λ r. ⌜ Put (now (line .entry)) 0 (closing count) (now (line .exit)) r ⌝ }
+    ensures end { λ r. ⌜ r ≤ 768 ⌝ }
+{
+    match count {
+        Counted::Blocks(n) => put_count(line, n),
+        Counted::Refused(r) => put_refusal(line, r),
+    }
+}
+
+fn put_count(line: &mut [u8], n: usize) -> usize
+    requires { ⌜ 768 ≤ length (now line) ⌝ }
+    ensures put { λ r. ⌜ Put (now (line .entry)) 0 (countLine n) (now (line .exit)) r ⌝ }
+    ensures end { λ r. ⌜ r ≤ 768 ⌝ }
+{
+    let at = put_all(line, 0, b"blocks ");
+    let end = put_decimal(line, at, n as u64);
+    put(line, end, 10)
+}
+
+fn put_refusal(line: &mut [u8], refusal: Refusal) -> usize
+    requires { ⌜ 768 ≤ length (now line) ⌝ }
+    ensures put { λ r. ⌜ Put (now (line .entry)) 0 (refusalLine (refusal .number) (refusal .place)) (now (line .exit)) r ⌝ }
+    ensures end { λ r. ⌜ r ≤ 768 ⌝ }
+{
+    let at = put_all(line, 0, b"refused ");
+    let number = put_decimal(line, at, refusal.number as u64);
+    let next = put(line, number, 32);
+    let end = put_decimal(line, next, refusal.place as u64);
+    put(line, end, 10)
+}
