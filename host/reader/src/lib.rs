@@ -1,0 +1,47 @@
+//! A second opinion on Crumbtrellis: a reader of eight-track NC tapes written from the rules alone.
+//!
+//! It shares no code with the proved library. The module `trial` holds what the comparison needs: the
+//! generator of tapes, the damage done to them, and the pipe to the C host.
+
+#![forbid(unsafe_code)]
+#![warn(missing_docs)]
+
+pub mod listing;
+pub mod punching;
+pub mod reading;
+pub mod rows;
+pub mod shorthand;
+pub mod speeds;
+
+
+use std::fmt;
+
+/// A refusal by its number in the rules, and its place.
+#[derive(Clone, Copy, Debug, PartialEq, Eq)]
+pub struct Refusal {
+    /// 1 to 21
+    pub number: u32,
+    /// a row, a byte of the shorthand, or what the table of refusals says
+    pub place: u64,
+}
+
+impl Refusal {
+    /// The refusal `number` at `place`.
+    pub fn new(number: u32, place: usize) -> Self {
+        Refusal { number, place: place as u64 }
+    }
+}
+
+impl fmt::Display for Refusal {
+    fn fmt(&self, to: &mut fmt::Formatter<'_>) -> fmt::Result {
+        write!(to, "refused {} {}", self.number, self.place)
+    }
+}
+
+/// How many blocks stand on `tape`, judged by `edition` and `shorthand`.
+pub fn count_blocks(edition: u32, shorthand: &[u8], tape: &[u8]) -> Result<u64, Refusal> {
+    let format = shorthand::parse(edition, shorthand)?;
+    let mut count = reading::Count::default();
+    reading::read(&format, tape, &mut count)?;
+    Ok(count.blocks)
+}

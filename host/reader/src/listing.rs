@@ -1,0 +1,110 @@
+//! The listing: what the listing program prints for what stands on its standard input.
+
+use crate::reading::{self, Block, Value};
+use crate::shorthand::{self, Format};
+use crate::Refusal;
+use std::fmt::Write;
+
+/// LF must stand within this many bytes.
+const HEADER: usize = 200;
+/// The most rows that the listing program takes.
+const MOST_ROWS: usize = 60_000;
+
+/// The whole output for `input`.
+pub fn listing(input: &[u8]) -> String {
+    match blocks(input) {
+        Ok((format, blocks)) => text(format.sequence, &blocks),
+        Err(refusal) => format!("{refusal}\n"),
+    }
+}
+
+/// The output for blocks whose sequence numbers have `digits` digits.
+pub fn text(digits: u32, blocks: &[Block]) -> String {
+    let mut text = String::new();
+    for block in blocks {
+        line(&mut text, digits as usize, block);
+    }
+    text += &format!("blocks {}\n", blocks.len());
+    text
+}
+
+fn line(text: &mut String, digits: usize, block: &Block) {
+    let letter = if block.opening.alignment { ':' } else { 'N' };
+    let skip = if block.opening.skip { '/' } else { '-' };
+    let _ = write!(text, "{letter} {:0digits$} {skip}", block.opening.sequence);
+    for &(letter, value) in &block.words {
+        let _ = match value {
+            Value::Dimension(number) => write!(text, " {}{number}", letter as char),
+            Value::Plain(number) | Value::Speed(number) => write!(text, " {}{number}", letter as char),
+        };
+    }
+    text.push('\n');
+}
+
+fn blocks(input: &[u8]) -> Result<(Format, Vec<Block>), Refusal> {
+    let (edition, shorthand, rows) = header(input).ok_or(Refusal::new(1, 0))?;
+    let format = shorthand::parse(edition, shorthand)?;
+    if rows.len() > MOST_ROWS {
+        return Err(Refusal::new(4, MOST_ROWS));
+    }
+    let mut blocks = Vec::new();
+    reading::read(&format, rows, &mut blocks)?;
+    Ok((format, blocks))
+}
+
+/// The edition, the shorthand and the rows; none where the header is at fault.
+fn header(input: &[u8]) -> Option<(u32, &[u8], &[u8])> {
+    let end = input.iter().take(HEADER).position(|&byte| byte == b'\n')?;
+    let (line, rows) = (&input[..end], &input[end + 1..]);
+    let space = line.iter().position(|&byte| byte == b' ')?;
+    let edition = match &line[..space] {
+        b"1057" => 1057,
+        b"2539" => 2539,
+        _ => return None,
+    };
+    Some((edition, &line[space + 1..], rows))
+}
+
+#[cfg(test)]
+mod tests {
+    use super::*;
+    use crate::rows::punched;
+
+    fn input(header: &str, text: &str) -> Vec<u8> {
+        header.bytes().chain(text.bytes().map(punched)).collect()
+    }
+
+    #[test]
+    fn the_example() {
+        let text = "%\nN001\tG01\tX+012500\tF615\n/N002\t\tX-000250\n";
+        assert_eq!(text.len(), 41);
+        assert_eq!(
+            listing(&input("1057 N3.G2.X+42.F3.M2*\n", text)),
+            "N 001 - G1 X12500 F1500000000\nN 002 / X-250\nblocks 2\n"
+        );
+    }
+
+    #[test]
+    fn the_header() {
+        for wrong in ["", "1057", "1057 N3*", "1057\n", " N3*\n", "01057 N3*\n", "1058 N3*\n", "1057N3* \n"] {
+            assert_eq!(listing(&input(wrong, "")), "refused 1 0\n", "{wrong:?}");
+        }
+        assert_eq!(listing(&input("1057  N3*\n", "")), "refused 2 0\n");
+        assert_eq!(listing(&input("1057 N3*\n", "")), "refused 8 0\n");
+        let long = |length: usize| format!("1057 {}\n", "N".repeat(length - 6));
+        assert_eq!(listing(&input(&long(200), "")), "refused 2 0\n");
+        assert_eq!(listing(&input(&long(201), "")), "refused 1 0\n");
+    }
+
+    #[test]
+    fn too_many_rows() {
+        let mut most = input("1057 N3*\n", "%\n");
+        let header = most.len() - 2;
+        most.resize(header + MOST_ROWS, 0);
+        assert_eq!(listing(&most), "blocks 0\n");
+        most.push(1);
+        assert_eq!(listing(&most), "refused 4 60000\n");
+        most[6] = b'2';
+        assert_eq!(listing(&most), "refused 2 0\n");
+    }
+}

@@ -1,0 +1,402 @@
+//! Reading a tape: the four stages, and the blocks handed to a visitor as they are found.
+
+use crate::rows::{self, CR, DEL, HT, LF, NUL};
+use crate::shorthand::{Format, Item, Kind, Sign};
+use crate::speeds;
+use crate::Refusal;
+
+/// How a block begins.
+#[derive(Clone, Copy, Debug, PartialEq, Eq)]
+pub struct Opening {
+    /// "/" stands before it
+    pub skip: bool,
+    /// ":" stands for N
+    pub alignment: bool,
+    /// its sequence number
+    pub sequence: u64,
+}
+
+/// The value of a word.
+#[derive(Clone, Copy, Debug, PartialEq, Eq)]
+pub enum Value {
+    /// in the last decimal place
+    Dimension(i64),
+    /// of G, M or T
+    Plain(u64),
+    /// in ten-millionths
+    Speed(u64),
+}
+
+/// What is told of a tape while it is read. On a refusal all that was told is void.
+pub trait Visitor {
+    /// A block begins.
+    fn block(&mut self, opening: Opening);
+    /// A word of the block begun last.
+    fn word(&mut self, letter: u8, value: Value);
+}
+
+/// Only counts the blocks.
+#[derive(Default)]
+pub struct Count {
+    /// how many began
+    pub blocks: u64,
+}
+
+impl Visitor for Count {
+    fn block(&mut self, _: Opening) {
+        self.blocks += 1;
+    }
+    fn word(&mut self, _: u8, _: Value) {}
+}
+
+/// A block with its words.
+#[derive(Clone, Debug, PartialEq, Eq)]
+pub struct Block {
+    /// how it begins
+    pub opening: Opening,
+    /// its words in the order of the tape
+    pub words: Vec<(u8, Value)>,
+}
+
+impl Visitor for Vec<Block> {
+    fn block(&mut self, opening: Opening) {
+        self.push(Block { opening, words: Vec::new() });
+    }
+    fn word(&mut self, letter: u8, value: Value) {
+        if let Some(block) = self.last_mut() {
+            block.words.push((letter, value));
+        }
+    }
+}
+
+/// Reads the whole of `tape`. A stage starts only when the one before has passed the whole tape.
+pub fn read<V: Visitor>(format: &Format, tape: &[u8], visitor: &mut V) -> Result<(), Refusal> {
+    rows::judge(tape)?;
+    judge_control_outs(tape)?;
+    let mut reader = Reader::over(tape);
+    reader.head()?;
+    while reader.here().is_some() {
+        reader.block(format, visitor)?;
+    }
+    Ok(())
+}
+
+/// Stage 3: "(" opens, the first ")" closes, and neither ":" nor "%" stands between.
+fn judge_control_outs(tape: &[u8]) -> Result<(), Refusal> {
+    let character = |at: usize| tape[at] & 0x7F;
+    let mut at = 0;
+    while at < tape.len() {
+        if character(at) == b')' {
+            return Err(Refusal::new(7, at));
+        }
+        if character(at) == b'(' {
+            let Some(length) = tape[at..].iter().position(|row| row & 0x7F == b')') else {
+                // whatever is wrong inside stands above the "(" that is never closed
+                return Err(Refusal::new(7, at));
+            };
+            let inside = &tape[at..at + length];
+            if let Some(wrong) = inside.iter().position(|row| matches!(row & 0x7F, b':' | b'%')) {
+                return Err(Refusal::new(7, at + wrong));
+            }
+            at += length;
+        }
+        at += 1;
+    }
+    Ok(())
+}
+
+/// Stage 4 over what stage 3 leaves. It always stands on a row that is left, or at the tape's length.
+struct Reader<'t> {
+    tape: &'t [u8],
+    place: usize,
+}
+
+impl<'t> Reader<'t> {
+    fn over(tape: &'t [u8]) -> Self {
+        let mut reader = Reader { tape, place: 0 };
+        reader.pass_over();
+        reader
+    }
+
+    /// The character here; none at the end of the tape.
+    #[inline]
+    fn here(&self) -> Option<u8> {
+        self.tape.get(self.place).map(|row| row & 0x7F)
+    }
+
+    #[inline]
+    fn step(&mut self) {
+        self.place += 1;
+        self.pass_over();
+    }
+
+    /// Passes over NUL, DEL and control-outs.
+    #[inline]
+    fn pass_over(&mut self) {
+        loop {
+            match self.here() {
+                Some(NUL | DEL) => self.place += 1,
+                Some(b'(') => self.pass_over_control_out(),
+                _ => return,
+            }
+        }
+    }
+
+    #[cold]
+    fn pass_over_control_out(&mut self) {
+        while self.here().is_some_and(|character| character != b')') {
+            self.place += 1;
+        }
+        self.place += 1;
+    }
+
+    /// The refusal `number` here, or 14 where the tape ends.
+    #[cold]
+    fn wrong(&self, number: u32) -> Refusal {
+        let number = if self.place < self.tape.len() { number } else { 14 };
+        Refusal::new(number, self.place)
+    }
+
+    /// "%" and an end. Place and tape length are the same thing where the tape ends too soon.
+    fn head(&mut self) -> Result<(), Refusal> {
+        if self.here() != Some(b'%') {
+            return Err(Refusal::new(8, self.place));
+        }
+        self.step();
+        let end = self.place;
+        if self.here() == Some(CR) {
+            self.step();
+        }
+        match self.here() {
+            Some(LF) => self.step(),
+            None => return Err(Refusal::new(8, self.place)),
+            Some(_) => return Err(Refusal::new(8, end)),
+        }
+        Ok(())
+    }
+
+    fn block<V: Visitor>(&mut self, format: &Format, visitor: &mut V) -> Result<(), Refusal> {
+        let skip = self.here() == Some(b'/');
+        if skip {
+            self.step();
+        }
+        let alignment = match self.here() {
+            Some(b'N') => false,
+            Some(b':') => true,
+            _ => return Err(self.wrong(9)),
+        };
+        self.step();
+        let (sequence, _) = self.digits(format.sequence, format.sequence, 9)?;
+        visitor.block(Opening { skip, alignment, sequence });
+        if format.tabs {
+            self.tabbed_words(format, visitor)?;
+        } else {
+            self.words(format, visitor)?;
+        }
+        self.end()
+    }
+
+    /// Each tab steps to the next item; its word follows, or nothing.
+    fn tabbed_words<V: Visitor>(&mut self, format: &Format, visitor: &mut V) -> Result<(), Refusal> {
+        let mut due = format.items.iter();
+        while self.here() == Some(HT) {
+            let item = due.next().ok_or_else(|| self.wrong(10))?;
+            self.step();
+            if self.here() == Some(item.letter) {
+                visitor.word(item.letter, self.word(item)?);
+            }
+        }
+        Ok(())
+    }
+
+    /// Words in the shorthand's order, each at most once.
+    fn words<V: Visitor>(&mut self, format: &Format, visitor: &mut V) -> Result<(), Refusal> {
+        let mut due = format.items.iter();
+        while let Some(letter @ b'A'..=b'Z') = self.here() {
+            let item = due.find(|item| item.letter == letter).ok_or_else(|| self.wrong(10))?;
+            visitor.word(letter, self.word(item)?);
+        }
+        Ok(())
+    }
+
+    /// LF, or CR directly before LF.
+    fn end(&mut self) -> Result<(), Refusal> {
+        match self.here() {
+            Some(LF) => {}
+            Some(CR) => {
+                let own = self.place;
+                self.step();
+                match self.here() {
+                    Some(LF) => {}
+                    None => return Err(self.wrong(10)),
+                    Some(_) => return Err(Refusal::new(10, own)),
+                }
+            }
+            _ => return Err(self.wrong(10)),
+        }
+        self.step();
+        Ok(())
+    }
+
+    /// The word of `item`, from its address on.
+    #[inline]
+    fn word(&mut self, item: &Item) -> Result<Value, Refusal> {
+        let address = self.place;
+        self.step();
+        let signed = matches!(self.here(), Some(b'+' | b'-'));
+        let minus = self.here() == Some(b'-');
+        match (item.sign, signed) {
+            (Sign::Barred, true) | (Sign::Required, false) => return Err(self.wrong(12)),
+            (_, true) => self.step(),
+            (_, false) => {}
+        }
+        let (number, count) = self.digits(item.least, item.most, 11)?;
+        let dimension = |number: u64| if minus { -(number as i64) } else { number as i64 };
+        Ok(match item.kind {
+            Kind::Plain => Value::Plain(number),
+            Kind::Speed => Value::Speed(speeds::units(item.most, number).ok_or(Refusal::new(13, address))?),
+            Kind::Dimension => Value::Dimension(dimension(number)),
+            Kind::Trailing => Value::Dimension(dimension(number * 10u64.pow(item.most - count))),
+        })
+    }
+
+    /// All digits that stand here, `least` to `most` of them: their number and their count.
+    #[inline]
+    fn digits(&mut self, least: u32, most: u32, refusal: u32) -> Result<(u64, u32), Refusal> {
+        let (mut number, mut count) = (0, 0);
+        while let Some(digit @ b'0'..=b'9') = self.here() {
+            if count == most {
+                return Err(self.wrong(refusal));
+            }
+            number = number * 10 + u64::from(digit - b'0');
+            count += 1;
+            self.step();
+        }
+        if count < least {
+            return Err(self.wrong(refusal));
+        }
+        Ok((number, count))
+    }
+}
+
+#[cfg(test)]
+mod tests {
+    use super::*;
+    use crate::rows::punched;
+    use crate::{count_blocks, shorthand};
+
+    const PLAIN: &str = "N3.G2.X+42.F3.M2*";
+
+    fn tape(text: &str) -> Vec<u8> {
+        text.bytes().map(punched).collect()
+    }
+
+    /// The number and place of the answer, with the count for a place where it is 0.
+    fn answer(edition: u32, shorthand: &str, text: &str) -> (u32, u64) {
+        match count_blocks(edition, shorthand.as_bytes(), &tape(text)) {
+            Ok(count) => (0, count),
+            Err(refusal) => (refusal.number, refusal.place),
+        }
+    }
+
+    fn first_word(shorthand: &str, text: &str) -> Value {
+        let format = shorthand::parse(2539, shorthand.as_bytes()).unwrap();
+        let mut blocks = Vec::new();
+        read(&format, &tape(text), &mut blocks).unwrap();
+        blocks[0].words[0].1
+    }
+
+    #[test]
+    fn dropped_zeros() {
+        assert_eq!(first_word("N3X+042*", "%\nN001X+5\n"), Value::Dimension(5));
+        assert_eq!(first_word("N3X+420*", "%\nN001X+5\n"), Value::Dimension(500_000));
+        assert_eq!(first_word("N3X+420*", "%\nN001X-05\n"), Value::Dimension(-50_000));
+        assert_eq!(first_word("N3X+42*", "%\nN001X-000000\n"), Value::Dimension(0));
+    }
+
+    #[test]
+    fn heads() {
+        assert_eq!(answer(1057, PLAIN, ""), (8, 0));
+        assert_eq!(answer(1057, PLAIN, "%"), (8, 1));
+        assert_eq!(answer(1057, PLAIN, "%\n"), (0, 0));
+        assert_eq!(answer(1057, PLAIN, "%\r\n"), (0, 0));
+        assert_eq!(answer(1057, PLAIN, "%\r"), (8, 2));
+        assert_eq!(answer(1057, PLAIN, "%\rN"), (8, 1));
+        assert_eq!(answer(1057, PLAIN, "%\r\r\n"), (8, 1));
+        assert_eq!(answer(1057, PLAIN, "\n%\n"), (8, 0));
+        assert_eq!(answer(1057, PLAIN, "\0(A(B)\x7F%\0\r(X\n)\n\0"), (0, 0));
+    }
+
+    #[test]
+    fn control_outs() {
+        assert_eq!(answer(1057, PLAIN, "%\n(A(B)"), (0, 0));
+        assert_eq!(answer(1057, PLAIN, "%\n(A)B)"), (7, 6));
+        assert_eq!(answer(1057, PLAIN, "%\n(A%B)"), (7, 4));
+        assert_eq!(answer(1057, PLAIN, "%\n(A%B"), (7, 2));
+        assert_eq!(answer(1057, PLAIN, "%\n(A)(B:(C)"), (7, 7));
+        assert_eq!(answer(1057, PLAIN, "N\n("), (7, 2));
+    }
+
+    #[test]
+    fn openings() {
+        assert_eq!(answer(1057, PLAIN, "%\nX"), (9, 2));
+        assert_eq!(answer(1057, PLAIN, "%\n/"), (14, 3));
+        assert_eq!(answer(1057, PLAIN, "%\n//N001\n"), (9, 3));
+        assert_eq!(answer(1057, PLAIN, "%\n:001\n/:001\n"), (0, 2));
+        assert_eq!(answer(1057, PLAIN, "%\nN01\n"), (9, 5));
+        assert_eq!(answer(1057, PLAIN, "%\nN0001\n"), (9, 6));
+        assert_eq!(answer(1057, PLAIN, "%\nN01"), (14, 5));
+        assert_eq!(answer(1057, PLAIN, "%\nN001"), (14, 6));
+    }
+
+    #[test]
+    fn tabs_and_ends() {
+        assert_eq!(answer(1057, PLAIN, "%\nN001\t\t\t\t\n"), (0, 1));
+        assert_eq!(answer(1057, PLAIN, "%\nN001\t\t\t\t\t\n"), (10, 10));
+        assert_eq!(answer(1057, PLAIN, "%\nN001G01\n"), (10, 6));
+        assert_eq!(answer(1057, PLAIN, "%\nN001\tX+012500\n"), (10, 7));
+        assert_eq!(answer(1057, PLAIN, "%\nN001\tG01\r\n"), (0, 1));
+        assert_eq!(answer(1057, PLAIN, "%\nN001\tG01\r\t\n"), (10, 10));
+        assert_eq!(answer(1057, PLAIN, "%\nN001\tG01\r"), (14, 11));
+        assert_eq!(answer(1057, PLAIN, "%\nN001\tG01\r(REMARK)\n"), (0, 1));
+        assert_eq!(answer(2539, "N3G2X42*", "%\nN001X000000G01\n"), (10, 13));
+        assert_eq!(answer(2539, "N3G2X42*", "%\nN001G01G01\n"), (10, 9));
+        assert_eq!(answer(2539, "N3G2X42*", "%\nN001\tG01\n"), (10, 6));
+    }
+
+    #[test]
+    fn words() {
+        assert_eq!(answer(1057, PLAIN, "%\nN001\tG1\n"), (11, 9));
+        assert_eq!(answer(1057, PLAIN, "%\nN001\tG012\n"), (11, 10));
+        assert_eq!(answer(1057, PLAIN, "%\nN001\tG+01\n"), (12, 8));
+        assert_eq!(answer(1057, PLAIN, "%\nN001\t\tX000000\n"), (12, 9));
+        assert_eq!(answer(1057, PLAIN, "%\nN001\t\tX"), (14, 9));
+        assert_eq!(answer(1057, PLAIN, "%\nN001\t\tX\n"), (12, 9));
+        assert_eq!(answer(1057, PLAIN, "%\nN001\t\tX+-00000\n"), (11, 10));
+        assert_eq!(answer(2539, PLAIN, "%\nN001\t\tX000000\n"), (0, 1));
+        assert_eq!(answer(2539, "N3.X42*", "%\nN001\tX+00000\n"), (12, 8));
+        assert_eq!(answer(2539, "N3.X042*", "%\nN001\tX\n"), (11, 8));
+        assert_eq!(answer(2539, "N3.X042*", "%\nN001\tX1234567\n"), (11, 14));
+    }
+
+    #[test]
+    fn speed_words() {
+        assert_eq!(answer(1057, "N3.F3*", "%\nN001\tF100\n"), (13, 7));
+        assert_eq!(answer(1057, "N3.F3*", "%\nN001\tF1000\n"), (11, 11));
+        assert_eq!(answer(1057, "N3.F3*", "%\nN001\tF100"), (13, 7));
+        assert_eq!(answer(1057, "N3.F3*", "%\nN001\tF10"), (14, 10));
+        assert_eq!(answer(1057, "N3.F3*", "%\nN001\tF000\n"), (0, 1));
+    }
+
+    #[test]
+    fn a_later_stage_waits_for_the_earlier_one() {
+        let mut rows = tape("X(");
+        assert_eq!(count_blocks(1057, PLAIN.as_bytes(), &rows), Err(Refusal::new(7, 1)));
+        rows.push(33);
+        assert_eq!(count_blocks(1057, PLAIN.as_bytes(), &rows), Err(Refusal::new(6, 2)));
+        rows.push(1);
+        assert_eq!(count_blocks(1057, PLAIN.as_bytes(), &rows), Err(Refusal::new(5, 3)));
+        assert_eq!(count_blocks(1057, b"N", &rows), Err(Refusal::new(2, 1)));
+        assert_eq!(count_blocks(0, b"N", &rows), Err(Refusal::new(1, 0)));
+    }
+}
