@@ -1,0 +1,511 @@
+/* The C host: calls the library's four C functions, for a self-test, for the comparison and for timing. */
+
+#include <stddef.h>
+#include <stdint.h>
+
+#include "crumbtrellis.h"
+
+/* Own prototypes, because a compiler for another processor than its own may come without the C
+   library's headers. The numbers are Linux's, the same on x86-64 and on Arm. */
+long read(int file, void *to, size_t length);
+long write(int file, const void *from, size_t length);
+void *mmap(void *at, size_t length, int protection, int flags, int file, long offset);
+int mprotect(void *at, size_t length, int protection);
+void *memcpy(void *to, const void *from, size_t length);
+int memcmp(const void *one, const void *other, size_t length);
+size_t strlen(const char *text);
+int strcmp(const char *one, const char *other);
+_Noreturn void _exit(int status);
+struct host_time {
+    long seconds;
+    long nanoseconds;
+};
+int clock_gettime(int clock, struct host_time *time);
+
+enum { PROTECT_NONE = 0, PROTECT_READ_WRITE = 3, MAP_OWN_ANONYMOUS = 0x22, CLOCK_STEADY = 1 };
+
+/* A multiple of every page size in use. */
+#define GUARD ((size_t)65536)
+#define MOST_TAPE ((size_t)32 * GUARD)
+#define MOST_SHORTHAND GUARD
+
+/* What *place and *value hold before a call: an answer that was not written shows. */
+#define UNWRITTEN UINT64_C(0xA5A5A5A5A5A5A5A5)
+
+/* ---- saying things */
+
+static void say(const char *text) {
+    if (write(2, text, strlen(text)) < 0) {
+        _exit(3);
+    }
+}
+
+static void say_number(uint64_t number) {
+    char digits[21];
+    size_t at = sizeof digits - 1;
+    digits[at] = 0;
+    do {
+        digits[--at] = (char)('0' + number % 10);
+        number /= 10;
+    } while (number != 0);
+    say(digits + at);
+}
+
+static _Noreturn void fail(const char *why) {
+    say("door: ");
+    say(why);
+    say("\n");
+    _exit(1);
+}
+
+/* ---- lent memory */
+
+/* Memory whose end is flush against an unreadable page: one byte past the end traps. */
+struct lent {
+    uint8_t *end;
+    size_t room;
+};
+
+static struct lent lend(size_t room) {
+    room = (room + GUARD - 1) / GUARD * GUARD;
+    uint8_t *start = mmap(NULL, room + GUARD, PROTECT_READ_WRITE, MAP_OWN_ANONYMOUS, -1, 0);
+    if ((uintptr_t)start == UINTPTR_MAX || mprotect(start + room, GUARD, PROTECT_NONE) != 0) {
+        fail("no memory");
+    }
+    return (struct lent){start + room, room};
+}
+
+/* The last `length` bytes; no bytes at all are a null pointer. */
+static uint8_t *last(struct lent memory, size_t length) {
+    if (length > memory.room) {
+        fail("more than there is room for");
+    }
+    return length == 0 ? NULL : memory.end - length;
+}
+
+static uint8_t *fill(struct lent memory, const void *from, size_t length) {
+    uint8_t *to = last(memory, length);
+    if (length != 0) {
+        memcpy(to, from, length);
+    }
+    return to;
+}
+
+static int same(const uint8_t *one, const void *other, size_t length) {
+    return length == 0 || memcmp(one, other, length) == 0;
+}
+
+/* ---- the self-test */
+
+struct answer {
+    uint64_t number;
+    uint64_t place;
+    uint64_t value;
+};
+
+static unsigned long tests;
+static unsigned long faults;
+
+static void expect(const char *what, struct answer found, uint64_t number, uint64_t place, uint64_t value) {
+    tests += 1;
+    if (found.number == number && found.place == place && found.value == value) {
+        return;
+    }
+    faults += 1;
+    say("door: ");
+    say(what);
+    say(": found ");
+    say_number(found.number);
+    say(" ");
+    say_number(found.place);
+    say(" ");
+    say_number(found.value);
+    say(", not ");
+    say_number(number);
+    say(" ");
+    say_number(place);
+    say(" ");
+    say_number(value);
+    say("\n");
+}
+
+static void expect_true(const char *what, int holds) {
+    tests += 1;
+    if (!holds) {
+        faults += 1;
+        say("door: ");
+        say(what);
+        say("\n");
+    }
+}
+
+static struct answer count_blocks(uint32_t edition, const uint8_t *shorthand, size_t shorthand_length,
+                                  const uint8_t *tape, size_t tape_length) {
+    struct answer answer = {0, UNWRITTEN, UNWRITTEN};
+    answer.number =
+        crumbtrellis_count_blocks(edition, shorthand, shorthand_length, tape, tape_length, &answer.place, &answer.value);
+    return answer;
+}
+
+static struct answer speed_of(uint32_t digits, uint64_t code) {
+    struct answer answer = {0, UNWRITTEN, UNWRITTEN};
+    answer.number = crumbtrellis_speed_of(digits, code, &answer.place, &answer.value);
+    return answer;
+}
+
+static struct answer code_of(uint32_t digits, uint64_t speed) {
+    struct answer answer = {0, UNWRITTEN, UNWRITTEN};
+    answer.number = crumbtrellis_code_of(digits, speed, &answer.place, &answer.value);
+    return answer;
+}
+
+static struct answer punch_head(uint8_t *buffer, size_t length) {
+    struct answer answer = {0, UNWRITTEN, UNWRITTEN};
+    answer.number = crumbtrellis_punch_head(buffer, length, &answer.place, &answer.value);
+    return answer;
+}
+
+/* The row of a character: the eighth hole makes their number even. */
+static uint8_t row(char character) {
+    unsigned ones = 0;
+    for (unsigned bits = (unsigned char)character; bits != 0; bits >>= 1) {
+        ones += bits & 1U;
+    }
+    return (uint8_t)((unsigned char)character | (ones % 2U) << 7);
+}
+
+/* Counts the blocks of `text` punched, with both slices flush against their guards and unchanged after. */
+static void expect_count(struct lent shorthand, struct lent tape, uint32_t edition, const char *format,
+                         const char *text, uint64_t number, uint64_t place, uint64_t value) {
+    uint8_t rows[256];
+    size_t length = strlen(text);
+    for (size_t at = 0; at < length; at += 1) {
+        rows[at] = row(text[at]);
+    }
+    uint8_t *lent_shorthand = fill(shorthand, format, strlen(format));
+    uint8_t *lent_tape = fill(tape, rows, length);
+    expect(text, count_blocks(edition, lent_shorthand, strlen(format), lent_tape, length), number, place, value);
+    expect_true("a lent slice was changed",
+                same(lent_shorthand, format, strlen(format)) && same(lent_tape, rows, length));
+}
+
+static void test_counts(struct lent s, struct lent t) {
+    static const char format[] = "N3.G2.X+42.F3.M2*";
+    expect_count(s, t, 1057, format, "%\nN001\tG01\tX+012500\tF615\n/N002\t\tX-000250\n", 0, 0, 2);
+    expect_count(s, t, 1057, format, "%\n", 0, 0, 0);
+    expect_count(s, t, 1057, format, "%\r(CR THEN A REMARK\n)\n:001\t\t\t\t\n", 0, 0, 1);
+    expect_count(s, t, 2539, "N4X042Y+420*", "%\nN0001X5Y5\n", 0, 0, 1);
+    expect_count(s, t, 1058, format, "%\n", 1, 0, 0);
+    expect_count(s, t, 2539, "N3X+040*", "%\n", 2, 2, 0);
+    expect_count(s, t, 2539, "", "%\n", 2, 0, 0);
+    expect_count(s, t, 1057, "N3.X+042*", "%\n", 3, 2, 0);
+    expect_count(s, t, 1057, format, "%\n(A)B)", 7, 6, 0);
+    expect_count(s, t, 1057, format, "", 8, 0, 0);
+    expect_count(s, t, 1057, format, "%", 8, 1, 0);
+    expect_count(s, t, 1057, format, "%\nN01\n", 9, 5, 0);
+    expect_count(s, t, 1057, format, "%\nN001G01\n", 10, 6, 0);
+    expect_count(s, t, 1057, format, "%\nN001\tG1\n", 11, 9, 0);
+    expect_count(s, t, 1057, format, "%\nN001\t\tX000000\n", 12, 9, 0);
+    expect_count(s, t, 1057, format, "%\nN001\t\t\tF100\n", 13, 9, 0);
+    expect_count(s, t, 1057, format, "%\nN001", 14, 6, 0);
+
+    static const uint8_t odd[] = {165, 10, 37};
+    static const uint8_t unknown[] = {165, 10, 33};
+    uint8_t *shorthand = fill(s, format, strlen(format));
+    expect("an odd row", count_blocks(1057, shorthand, strlen(format), fill(t, odd, 3), 3), 5, 2, 0);
+    expect("an unknown row", count_blocks(1057, shorthand, strlen(format), fill(t, unknown, 3), 3), 6, 2, 0);
+}
+
+/* Null pointers with length 0, empty slices that are not null, and the longest tapes. */
+static void test_edges(struct lent s, struct lent t) {
+    uint8_t *shorthand = fill(s, "N3*", 3);
+    expect("no shorthand, no tape", count_blocks(1057, NULL, 0, NULL, 0), 2, 0, 0);
+    expect("no tape", count_blocks(1057, shorthand, 3, NULL, 0), 8, 0, 0);
+    expect("an empty tape", count_blocks(1057, shorthand, 3, t.end, 0), 8, 0, 0);
+    expect("an empty shorthand", count_blocks(2539, s.end, 0, t.end, 0), 2, 0, 0);
+    expect("no edition", count_blocks(0, NULL, 0, NULL, 0), 1, 0, 0);
+    expect("the greatest edition", count_blocks(UINT32_MAX, NULL, 0, NULL, 0), 1, 0, 0);
+
+    uint8_t *tape = last(t, 1000001);
+    for (size_t at = 0; at < 1000001; at += 1) {
+        tape[at] = 0;
+    }
+    expect("a tape too long", count_blocks(1057, shorthand, 3, tape, 1000001), 4, 1000000, 0);
+    expect("the longest tape, without a head", count_blocks(1057, shorthand, 3, tape + 1, 1000000), 8, 1000000, 0);
+    tape[999999] = row('%');
+    tape[1000000] = row('\n');
+    expect("the longest tape", count_blocks(1057, shorthand, 3, tape + 1, 1000000), 0, 0, 0);
+}
+
+static void test_speeds(void) {
+    expect("717", speed_of(3, 717), 0, 0, UINT64_C(17000000000));
+    expect("046", speed_of(3, 46), 0, 0, 4600);
+    expect("000", speed_of(3, 0), 0, 0, 0);
+    expect("99999", speed_of(5, 99999), 0, 0, UINT64_C(9999000000000));
+    expect("100", speed_of(3, 100), 13, 0, 0);
+    expect("1000 in three", speed_of(3, 1000), 21, 0, 0);
+    expect("a code of no digits", speed_of(0, 0), 21, 0, 0);
+    expect("a code of six", speed_of(6, 0), 21, 0, 0);
+    expect("the greatest code", speed_of(UINT32_MAX, UINT64_MAX), 21, 0, 0);
+
+    expect("152,500,000", code_of(4, 152500000), 0, 0, 5153);
+    expect("99,600,000", code_of(3, 99600000), 0, 0, 510);
+    expect("995", code_of(3, 995), 0, 0, 10);
+    expect("nothing", code_of(5, 0), 0, 0, 0);
+    expect("994", code_of(3, 994), 20, 0, 0);
+    expect("9,949,999,999,999", code_of(3, UINT64_C(9949999999999)), 0, 0, 999);
+    expect("9,950,000,000,000", code_of(3, UINT64_C(9950000000000)), 20, 0, 0);
+    expect("the greatest speed", code_of(5, UINT64_MAX), 20, 0, 0);
+    expect("two digits", code_of(2, 995), 21, 0, 0);
+    expect("the most digits", code_of(UINT32_MAX, 0), 21, 0, 0);
+}
+
+/* The byte that a lent buffer has at `at` before a call. */
+static uint8_t before(size_t at) {
+    return (uint8_t)(90 + at);
+}
+
+static uint8_t *lend_buffer(struct lent memory, size_t length) {
+    uint8_t *buffer = last(memory, length);
+    for (size_t at = 0; at < length; at += 1) {
+        buffer[at] = before(at);
+    }
+    return buffer;
+}
+
+static void test_heads(struct lent memory) {
+    expect("a head nowhere", punch_head(NULL, 0), 19, 2, 0);
+    expect("a head in an empty slice", punch_head(memory.end, 0), 19, 2, 0);
+    for (size_t length = 1; length <= 16; length += 1) {
+        uint8_t *buffer = lend_buffer(memory, length);
+        int fits = length >= 2;
+        expect("a head", punch_head(buffer, length), fits ? 0 : 19, fits ? 0 : 2, fits ? 2 : 0);
+        expect_true("the head's rows", !fits || (buffer[0] == 165 && buffer[1] == 10));
+        for (size_t at = fits ? 2 : 0; at < length; at += 1) {
+            expect_true("a row past the head was changed", buffer[at] == before(at));
+        }
+    }
+}
+
+static int selftest(void) {
+    struct lent shorthand = lend(MOST_SHORTHAND);
+    struct lent tape = lend(MOST_TAPE);
+    test_counts(shorthand, tape);
+    test_edges(shorthand, tape);
+    test_speeds();
+    test_heads(tape);
+    say("door: ");
+    say_number(tests - faults);
+    say(" of ");
+    say_number(tests);
+    say(" tests passed\n");
+    return faults == 0 ? 0 : 1;
+}
+
+/* ---- serving requests */
+
+/* A request is five numbers and, for a count, the bytes of the shorthand and of the tape. The answer
+   is four numbers and, for a head, the whole buffer. Numbers are 8 bytes, lowest first. */
+enum { COUNT = 1, SPEED = 2, CODE = 3, HEAD = 4 };
+enum { OPERATION, FIRST, SECOND, THIRD, REPEATS, REQUEST };
+enum { NUMBER, PLACE, VALUE, NANOSECONDS, ANSWER };
+
+static uint8_t input[65536];
+static size_t input_at, input_end;
+static uint8_t output[65536];
+static size_t output_end;
+
+static void flush(void) {
+    size_t at = 0;
+    while (at < output_end) {
+        long written = write(1, output + at, output_end - at);
+        if (written <= 0) {
+            fail("nobody takes the answers");
+        }
+        at += (size_t)written;
+    }
+    output_end = 0;
+}
+
+static void put(const void *from, size_t length) {
+    const uint8_t *bytes = from;
+    for (size_t at = 0; at < length; at += 1) {
+        if (output_end == sizeof output) {
+            flush();
+        }
+        output[output_end++] = bytes[at];
+    }
+}
+
+/* Takes up to `length` bytes of the standard input: fewer only where it ends. */
+static size_t get(void *to, size_t length) {
+    uint8_t *bytes = to;
+    size_t got = 0;
+    while (got < length) {
+        if (input_at == input_end) {
+            /* whoever waits for answers must have them before more is asked for */
+            flush();
+            long found = read(0, input, sizeof input);
+            if (found <= 0) {
+                break;
+            }
+            input_at = 0;
+            input_end = (size_t)found;
+        }
+        size_t part = input_end - input_at < length - got ? input_end - input_at : length - got;
+        memcpy(bytes + got, input + input_at, part);
+        input_at += part;
+        got += part;
+    }
+    return got;
+}
+
+static uint64_t now(void) {
+    struct host_time time = {0, 0};
+    if (clock_gettime(CLOCK_STEADY, &time) != 0) {
+        fail("no clock");
+    }
+    return (uint64_t)time.seconds * 1000000000U + (uint64_t)time.nanoseconds;
+}
+
+/* Counts `repeats` times and keeps the shortest time. */
+static struct answer timed_count(uint32_t edition, const uint8_t *shorthand, size_t shorthand_length,
+                                 const uint8_t *tape, size_t tape_length, uint64_t repeats, uint64_t *shortest) {
+    struct answer answer = {0, 0, 0};
+    *shortest = UINT64_MAX;
+    for (uint64_t run = 0; run < repeats; run += 1) {
+        uint64_t start = now();
+        answer = count_blocks(edition, shorthand, shorthand_length, tape, tape_length);
+        uint64_t time = now() - start;
+        if (time < *shortest) {
+            *shortest = time;
+        }
+    }
+    return answer;
+}
+
+struct desk {
+    struct lent shorthand;
+    struct lent tape;
+    uint8_t *shorthand_copy;
+    uint8_t *tape_copy;
+};
+
+static void take_slice(uint8_t *copy, size_t room, size_t length) {
+    if (length > room || get(copy, length) != length) {
+        fail("a request is cut short");
+    }
+}
+
+static struct answer serve_count(struct desk *desk, const uint64_t *request, uint64_t *nanoseconds) {
+    size_t shorthand_length = (size_t)request[SECOND];
+    size_t tape_length = (size_t)request[THIRD];
+    take_slice(desk->shorthand_copy, desk->shorthand.room, shorthand_length);
+    take_slice(desk->tape_copy, desk->tape.room, tape_length);
+    uint8_t *shorthand = fill(desk->shorthand, desk->shorthand_copy, shorthand_length);
+    uint8_t *tape = fill(desk->tape, desk->tape_copy, tape_length);
+    uint32_t edition = (uint32_t)request[FIRST];
+    struct answer answer;
+    if (request[REPEATS] == 0) {
+        answer = count_blocks(edition, shorthand, shorthand_length, tape, tape_length);
+    } else {
+        answer = timed_count(edition, shorthand, shorthand_length, tape, tape_length, request[REPEATS], nanoseconds);
+    }
+    if (!same(shorthand, desk->shorthand_copy, shorthand_length) || !same(tape, desk->tape_copy, tape_length)) {
+        fail("a lent slice was changed");
+    }
+    return answer;
+}
+
+static void put_answer(struct answer answer, uint64_t nanoseconds) {
+    uint64_t numbers[ANSWER] = {answer.number, answer.place, answer.value, nanoseconds};
+    put(numbers, sizeof numbers);
+}
+
+static void serve_one(struct desk *desk, const uint64_t *request) {
+    uint64_t nanoseconds = 0;
+    struct answer answer;
+    switch (request[OPERATION]) {
+    case COUNT:
+        answer = serve_count(desk, request, &nanoseconds);
+        put_answer(answer, nanoseconds);
+        break;
+    case SPEED:
+        put_answer(speed_of((uint32_t)request[FIRST], request[SECOND]), 0);
+        break;
+    case CODE:
+        put_answer(code_of((uint32_t)request[FIRST], request[SECOND]), 0);
+        break;
+    case HEAD: {
+        size_t length = (size_t)request[FIRST];
+        uint8_t *buffer = lend_buffer(desk->tape, length);
+        put_answer(punch_head(buffer, length), 0);
+        put(buffer, length);
+        break;
+    }
+    default:
+        fail("a request of no kind");
+    }
+}
+
+static int serve(void) {
+    struct desk desk = {lend(MOST_SHORTHAND), lend(MOST_TAPE), NULL, NULL};
+    struct lent shorthand_copy = lend(MOST_SHORTHAND);
+    struct lent tape_copy = lend(MOST_TAPE);
+    desk.shorthand_copy = shorthand_copy.end - shorthand_copy.room;
+    desk.tape_copy = tape_copy.end - tape_copy.room;
+    uint64_t request[REQUEST];
+    size_t got;
+    while ((got = get(request, sizeof request)) == sizeof request) {
+        serve_one(&desk, request);
+    }
+    flush();
+    return got == 0 ? 0 : 1;
+}
+
+/* ---- timing one tape by hand */
+
+/* The standard input is the listing program's: edition, a space, the shorthand, LF, the rows. */
+static int bench(uint64_t repeats) {
+    struct lent memory = lend(MOST_TAPE);
+    uint8_t *text = memory.end - memory.room;
+    size_t length = get(text, memory.room);
+    uint32_t edition = 0;
+    size_t at = 0;
+    for (; at < length && text[at] >= '0' && text[at] <= '9'; at += 1) {
+        edition = edition * 10U + (uint32_t)(text[at] - '0');
+    }
+    size_t shorthand = at + 1;
+    while (at < length && text[at] != '\n') {
+        at += 1;
+    }
+    if (at >= length || at < shorthand) {
+        fail("no edition and shorthand");
+    }
+    uint64_t shortest;
+    struct answer answer = timed_count(edition, text + shorthand, at - shorthand, text + at + 1, length - at - 1,
+                                       repeats, &shortest);
+    say("number ");
+    say_number(answer.number);
+    say(" place ");
+    say_number(answer.place);
+    say(" value ");
+    say_number(answer.value);
+    say(", nanoseconds ");
+    say_number(shortest);
+    say("\n");
+    return 0;
+}
+
+int main(int count, char **words) {
+    if (count == 2 && strcmp(words[1], "selftest") == 0) {
+        return selftest();
+    }
+    if (count == 2 && strcmp(words[1], "serve") == 0) {
+        return serve();
+    }
+    if (count == 2 && strcmp(words[1], "bench") == 0) {
+        return bench(20);
+    }
+    fail("say selftest, serve or bench");
+}
