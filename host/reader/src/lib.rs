@@ -12,6 +12,7 @@ pub mod reading;
 pub mod rows;
 pub mod shorthand;
 pub mod speeds;
+pub mod trial;
 
 
 use std::fmt;

@@ -1,0 +1,391 @@
+//! The inputs of the comparison, each settled by the seed and its number, and what the reader answers.
+
+use super::chance::Chance;
+use super::{damage, programs};
+use crate::rows::MOST_ROWS;
+use crate::{count_blocks, listing, punching, speeds, Refusal};
+use std::fmt;
+
+/// One call of the library.
+#[derive(Clone)]
+pub enum Ask {
+    /// how many blocks
+    Count {
+        /// its edition
+        edition: u32,
+        /// its format
+        shorthand: Vec<u8>,
+        /// its rows
+        tape: Vec<u8>,
+    },
+    /// code to speed
+    Speed {
+        /// how many digits
+        digits: u32,
+        /// the code
+        code: u64,
+    },
+    /// speed to code
+    Code {
+        /// how many digits
+        digits: u32,
+        /// the speed
+        speed: u64,
+    },
+    /// the head into a buffer
+    Head {
+        /// how many rows it has
+        length: usize,
+    },
+}
+
+/// What a call answers: number, place, value, and the lent buffer after it.
+#[derive(Clone, Debug, PartialEq, Eq)]
+pub struct Answer {
+    /// 0 or a refusal
+    pub number: u64,
+    /// 0 or the refusal's place
+    pub place: u64,
+    /// 0 where refused
+    pub value: u64,
+    /// the whole buffer of a head
+    pub buffer: Vec<u8>,
+}
+
+/// An input, and the answer where it is known from the making.
+pub struct Input {
+    /// the call
+    pub ask: Ask,
+    /// what it must answer
+    pub known: Option<Answer>,
+}
+
+impl Answer {
+    fn of(result: Result<u64, Refusal>) -> Answer {
+        let (number, place, value) = match result {
+            Ok(value) => (0, 0, value),
+            Err(refusal) => (u64::from(refusal.number), refusal.place, 0),
+        };
+        Answer { number, place, value, buffer: Vec::new() }
+    }
+}
+
+impl Ask {
+    /// The reader's answer.
+    pub fn answer(&self) -> Answer {
+        match self {
+            Ask::Count { edition, shorthand, tape } => Answer::of(count_blocks(*edition, shorthand, tape)),
+            Ask::Speed { digits, code } => Answer::of(speeds::speed_of(*digits, *code)),
+            Ask::Code { digits, speed } => Answer::of(speeds::code_of(*digits, *speed)),
+            Ask::Head { length } => {
+                // the C host lends a buffer with these bytes in it
+                let mut buffer: Vec<u8> = (0..*length).map(|at| (90 + at) as u8).collect();
+                let result = punching::punch_head(&mut buffer);
+                Answer { buffer, ..Answer::of(result) }
+            }
+        }
+    }
+}
+
+impl Input {
+    fn count(edition: u32, shorthand: &[u8], tape: Vec<u8>) -> Input {
+        Input { ask: Ask::Count { edition, shorthand: shorthand.to_vec(), tape }, known: None }
+    }
+
+    fn known(self, result: Result<u64, Refusal>) -> Input {
+        Input { known: Some(Answer::of(result)), ..self }
+    }
+
+    fn of(ask: Ask) -> Input {
+        Input { ask, known: None }
+    }
+}
+
+/// About `size` inputs of tapes and shorthands, the same for the same seed.
+pub fn tapes(seed: u64, size: usize) -> Vec<Input> {
+    let chance = &mut Chance::new(seed);
+    let mut inputs = Vec::with_capacity(size + 400);
+    while inputs.len() < size {
+        match chance.below(200) {
+            0 => cut_tapes(chance, &mut inputs),
+            1 => cut_shorthands(chance, &mut inputs),
+            2..=5 => other_edition(chance, &mut inputs),
+            6..=20 => odd_holes(chance, &mut inputs),
+            21..=50 => bad_shorthand(chance, &mut inputs),
+            51..=60 => other_format(chance, &mut inputs),
+            61..=100 => sound(chance, &mut inputs),
+            _ => bad_tape(chance, &mut inputs),
+        }
+    }
+    inputs
+}
+
+/// A sound tape: its count is known from the making, and so is its listing.
+fn sound(chance: &mut Chance, inputs: &mut Vec<Input>) {
+    let plan = programs::plan(chance);
+    let most = if chance.happens(1, 50) { 60 } else { 7 };
+    let tape = programs::tape(chance, &plan, most);
+    let blocks = tape.blocks.len() as u64;
+    inputs.push(Input::count(plan.edition, &plan.text, tape.rows).known(Ok(blocks)));
+}
+
+fn bad_tape(chance: &mut Chance, inputs: &mut Vec<Input>) {
+    let plan = programs::plan(chance);
+    let mut rows = if chance.happens(1, 2) {
+        programs::slipped_rows(chance, &plan, 5)
+    } else {
+        let mut rows = programs::tape(chance, &plan, 5).rows;
+        damage::tape(chance, &mut rows);
+        rows
+    };
+    if chance.happens(1, 16) {
+        damage::tape(chance, &mut rows);
+    }
+    inputs.push(Input::count(plan.edition, &plan.text, rows));
+}
+
+fn bad_shorthand(chance: &mut Chance, inputs: &mut Vec<Input>) {
+    let plan = programs::plan(chance);
+    let rows = programs::tape(chance, &plan, 2).rows;
+    let text = if chance.happens(1, 3) {
+        damage::pieces(chance)
+    } else {
+        let mut text = plan.text.clone();
+        damage::shorthand(chance, &mut text);
+        text
+    };
+    inputs.push(Input::count(either_edition(chance), &text, rows));
+}
+
+/// A tape read by a format that it was not made by.
+fn other_format(chance: &mut Chance, inputs: &mut Vec<Input>) {
+    let plan = programs::plan(chance);
+    let other = programs::plan(chance);
+    let rows = programs::tape(chance, &plan, 3).rows;
+    if chance.happens(1, 2) {
+        inputs.push(Input::count(other.edition, &other.text, rows));
+    } else {
+        inputs.push(Input::count(either_edition(chance), &plan.text, rows));
+    }
+}
+
+fn other_edition(chance: &mut Chance, inputs: &mut Vec<Input>) {
+    let plan = programs::plan(chance);
+    let mut rows = programs::tape(chance, &plan, 2).rows;
+    let mut text = plan.text;
+    if chance.happens(1, 2) {
+        damage::tape(chance, &mut rows);
+        damage::shorthand(chance, &mut text);
+    }
+    let near = [0, 1, 1056, 1058, 2538, 2540, 1057 + 65536, 2539 + 65536, 1057 << 16, u32::MAX, 0x8000_0000 + 1057];
+    let edition = if chance.happens(1, 2) { chance.one_of(&near) } else { chance.number() as u32 };
+    inputs.push(Input::count(edition, &text, rows));
+}
+
+/// A tape cut at every length.
+fn cut_tapes(chance: &mut Chance, inputs: &mut Vec<Input>) {
+    let plan = programs::plan(chance);
+    let mut rows = programs::tape(chance, &plan, 3).rows;
+    if chance.happens(1, 4) {
+        damage::tape(chance, &mut rows);
+    }
+    rows.truncate(250);
+    inputs.extend((0..=rows.len()).map(|length| Input::count(plan.edition, &plan.text, rows[..length].to_vec())));
+}
+
+/// A shorthand cut at every length.
+fn cut_shorthands(chance: &mut Chance, inputs: &mut Vec<Input>) {
+    let plan = programs::plan(chance);
+    let rows = programs::tape(chance, &plan, 1).rows;
+    let mut text = plan.text;
+    if chance.happens(1, 4) {
+        damage::shorthand(chance, &mut text);
+    }
+    let edition = either_edition(chance);
+    inputs.extend((0..=text.len()).map(|length| Input::count(edition, &text[..length], rows.clone())));
+}
+
+/// An odd number of holes changed in each of some rows of a sound tape: 5 at the first of them.
+fn odd_holes(chance: &mut Chance, inputs: &mut Vec<Input>) {
+    let plan = programs::plan(chance);
+    let mut rows = programs::tape(chance, &plan, 5).rows;
+    let mut chosen: Vec<usize> = (0..1 + chance.below(4)).map(|_| chance.below(rows.len())).collect();
+    chosen.sort_unstable();
+    chosen.dedup();
+    for &at in &chosen {
+        rows[at] ^= damage::holes(chance, 1);
+    }
+    inputs.push(Input::count(plan.edition, &plan.text, rows).known(Err(Refusal::new(5, chosen[0]))));
+}
+
+fn either_edition(chance: &mut Chance) -> u32 {
+    chance.one_of(&[1057, 2539])
+}
+
+/// Tapes at and over the limit, `size` of them.
+pub fn long_tapes(seed: u64, size: usize) -> Vec<Input> {
+    let chance = &mut Chance::new(seed);
+    (0..size).map(|at| long_tape(chance, at)).collect()
+}
+
+fn long_tape(chance: &mut Chance, at: usize) -> Input {
+    let plan = programs::plan(chance);
+    if at % 16 == 0 {
+        let tape = programs::long_tape(chance, &plan, MOST_ROWS);
+        let blocks = tape.blocks.len() as u64;
+        return Input::count(plan.edition, &plan.text, tape.rows).known(Ok(blocks));
+    }
+    // what stands on it does not matter: the length is judged before all else
+    let row = chance.one_of(&[0, 1, 33, 255, 40]);
+    let length = MOST_ROWS + 1 + if chance.happens(1, 2) { 0 } else { chance.below(1000) };
+    let tape = vec![row; length];
+    Input::count(plan.edition, &plan.text, tape).known(Err(Refusal::new(4, MOST_ROWS)))
+}
+
+/// Codes, speeds and heads: all edges, and `size` random ones.
+pub fn numbers(seed: u64, size: usize) -> Vec<Input> {
+    let chance = &mut Chance::new(seed);
+    let mut inputs: Vec<Input> = (0..=64).map(|length| Input::of(Ask::Head { length })).collect();
+    let lengths = [0, 1, 2, 3, 4, 5, 6, 7, 1 << 31, u32::MAX, (1 << 16) + 3];
+    let mut edges = vec![u64::MAX, u64::MAX - 1, 1 << 63, 1 << 32];
+    for power in 0..20 {
+        let ten = 10u64.pow(power);
+        for digits in [1, 5, 95, 99, 995, 994, 999, 9995, 9994, 9999, 99995, 99994, 99999, 15, 105, 1005] {
+            let scaled = u64::checked_mul(digits, ten);
+            edges.extend(scaled.into_iter().flat_map(|n| [n.saturating_sub(1), n, n.saturating_add(1)]));
+        }
+    }
+    for &digits in &lengths {
+        inputs.extend(edges.iter().map(|&speed| Input::of(Ask::Code { digits, speed })));
+        inputs.extend(edges.iter().map(|&code| Input::of(Ask::Speed { digits, code })));
+    }
+    inputs.extend((0..size).map(|_| Input::of(random_number(chance))));
+    inputs
+}
+
+fn random_number(chance: &mut Chance) -> Ask {
+    let digits = 3 + chance.below(3) as u32;
+    let bits = chance.below(64);
+    if chance.happens(1, 2) {
+        Ask::Code { digits, speed: chance.number() >> bits }
+    } else {
+        Ask::Speed { digits, code: chance.number() % 10u64.pow(digits) }
+    }
+}
+
+/// Standard inputs of the listing program, `size` of them.
+pub fn listings(seed: u64, size: usize) -> Vec<(Vec<u8>, Option<String>)> {
+    let chance = &mut Chance::new(seed);
+    (0..size).map(|at| listing_input(chance, at)).collect()
+}
+
+/// One standard input, and its listing where it is known from the making.
+fn listing_input(chance: &mut Chance, at: usize) -> (Vec<u8>, Option<String>) {
+    if at % 100 == 7 {
+        return (long_listing(chance), None);
+    }
+    let plan = programs::plan(chance);
+    let mut tape = programs::tape(chance, &plan, 6);
+    let mut header = format!("{} ", plan.edition).into_bytes();
+    header.extend_from_slice(&plan.text);
+    header.push(b'\n');
+    match chance.below(12) {
+        0..=4 => {
+            let text = listing::text(plan.sequence as u32, &tape.blocks);
+            return ([header, tape.rows].concat(), Some(text));
+        }
+        5..=8 => damage::tape(chance, &mut tape.rows),
+        9 => damage::shorthand(chance, &mut header),
+        _ => header = odd_header(chance, &plan.text),
+    }
+    ([header, tape.rows].concat(), None)
+}
+
+/// A header at the edges of its rules.
+fn odd_header(chance: &mut Chance, shorthand: &[u8]) -> Vec<u8> {
+    let edition = chance.one_of(&["1057", "2539", "1058", "", "01057", "2539.", "1057\0", "105", "+1057", "1057\r"]);
+    let between = chance.one_of(&[" ", " ", "", "  ", "\t", "."]);
+    let mut header = [edition.as_bytes(), between.as_bytes(), shorthand].concat();
+    if chance.happens(1, 3) {
+        // LF at byte 198 to 203, so within or just past the first 200
+        header.resize(198 + chance.below(6), chance.one_of(b" *.0"));
+    }
+    if chance.happens(5, 6) {
+        header.push(b'\n');
+    }
+    if chance.happens(1, 8) {
+        header.truncate(chance.below(header.len() + 1));
+    }
+    header
+}
+
+/// As many rows as the listing program takes, or one more or many more.
+fn long_listing(chance: &mut Chance) -> Vec<u8> {
+    let plan = programs::plan(chance);
+    let length = chance.one_of(&[60_000, 59_999]);
+    let mut rows = programs::long_tape(chance, &plan, length).rows;
+    let more = chance.one_of(&[0, 0, 1, 2, 5_000, 1_000_000]);
+    rows.resize(length + more, chance.one_of(&[0, 1]));
+    let text = if chance.happens(1, 5) { b"N3X040*".to_vec() } else { plan.text };
+    [plan.edition.to_string().as_bytes(), b" ", &text, b"\n", &rows].concat()
+}
+
+impl fmt::Display for Answer {
+    fn fmt(&self, to: &mut fmt::Formatter<'_>) -> fmt::Result {
+        write!(to, "number {} place {} value {}", self.number, self.place, self.value)?;
+        if !self.buffer.is_empty() {
+            write!(to, " buffer {:?}", self.buffer)?;
+        }
+        Ok(())
+    }
+}
+
+impl fmt::Display for Ask {
+    fn fmt(&self, to: &mut fmt::Formatter<'_>) -> fmt::Result {
+        match self {
+            Ask::Count { edition, shorthand, tape } => {
+                writeln!(to, "edition {edition}")?;
+                writeln!(to, "shorthand \"{}\" ({} bytes)", shorthand.escape_ascii(), shorthand.len())?;
+                writeln!(to, "tape of {} rows: {}", tape.len(), readable(tape))?;
+                write!(to, "tape in hex: {}", hex(tape))
+            }
+            Ask::Speed { digits, code } => write!(to, "the speed of code {code} in {digits} digits"),
+            Ask::Code { digits, speed } => write!(to, "the code of {speed} units in {digits} digits"),
+            Ask::Head { length } => write!(to, "the head into {length} rows"),
+        }
+    }
+}
+
+/// The most rows that are printed.
+const PRINTED: usize = 4_000;
+
+/// A tape for the eye: an odd row is marked with "!".
+pub fn readable(tape: &[u8]) -> String {
+    let shown = &tape[..tape.len().min(PRINTED)];
+    let mut text: String = shown
+        .iter()
+        .map(|row| {
+            let odd = if row.count_ones() % 2 == 1 { "!" } else { "" };
+            match row & 0x7F {
+                0 => format!("{odd}<NUL>"),
+                8 => format!("{odd}<BS>"),
+                9 => format!("{odd}<HT>"),
+                10 => format!("{odd}<LF>"),
+                13 => format!("{odd}<CR>"),
+                127 => format!("{odd}<DEL>"),
+                character @ 32..=126 => format!("{odd}{}", character as char),
+                other => format!("{odd}<{other}>"),
+            }
+        })
+        .collect();
+    if tape.len() > PRINTED {
+        text += " ... and so on";
+    }
+    text
+}
+
+/// The rows as they are.
+pub fn hex(tape: &[u8]) -> String {
+    let shown = &tape[..tape.len().min(PRINTED)];
+    shown.iter().map(|row| format!("{row:02x}")).collect()
+}

@@ -1,0 +1,360 @@
+//! Random shorthands and programs, and sound tapes of them that use every freedom of the rules.
+//!
+//! Nothing here asks the reader: the expected blocks are known from the making.
+
+use super::chance::Chance;
+use crate::reading::{Block, Opening, Value};
+use crate::rows::{is_character, punched, BS, CR, DEL, HT, LF, NUL};
+use crate::shorthand::ORDER;
+
+/// Which zeros may be dropped.
+#[derive(Clone, Copy, PartialEq, Eq)]
+enum Dropped {
+    None,
+    Leading,
+    Trailing,
+}
+
+/// A word item as it was made.
+#[derive(Clone, Copy)]
+enum Made {
+    Plain { digits: usize },
+    Speed { digits: usize },
+    Dimension { signed: bool, digits: usize, dropped: Dropped },
+}
+
+/// A sound shorthand with what it means.
+pub struct Plan {
+    /// 1057 or 2539
+    pub edition: u32,
+    /// its text
+    pub text: Vec<u8>,
+    /// the digits of a sequence number
+    pub sequence: usize,
+    tabs: bool,
+    items: Vec<(u8, Made)>,
+}
+
+/// A sound shorthand of either edition.
+pub fn plan(chance: &mut Chance) -> Plan {
+    let newer = chance.happens(2, 3);
+    let edition = if newer { 2539 } else { 1057 };
+    let sequence = if newer { 3 + chance.below(7) } else { 3 };
+    let tabs = !newer || chance.happens(1, 2);
+    let mut plan = Plan { edition, text: format!("N{sequence}").into_bytes(), sequence, tabs, items: Vec::new() };
+    // from none of the items to all of them
+    let density = chance.below(11);
+    for &letter in ORDER {
+        if !chance.happens(density, 10) || (!newer && matches!(letter, b'I' | b'J' | b'K')) {
+            continue;
+        }
+        if tabs {
+            plan.text.push(b'.');
+        }
+        plan.text.push(letter);
+        let made = item(chance, letter, newer, &mut plan.text);
+        plan.items.push((letter, made));
+    }
+    plan.text.push(b'*');
+    plan
+}
+
+/// Writes the mark and digits of one item.
+fn item(chance: &mut Chance, letter: u8, newer: bool, text: &mut Vec<u8>) -> Made {
+    let digit = |value: usize| b'0' + value as u8;
+    match letter {
+        b'G' | b'M' => {
+            text.push(b'2');
+            Made::Plain { digits: 2 }
+        }
+        b'T' => {
+            let digits = 1 + chance.below(9);
+            text.push(digit(digits));
+            Made::Plain { digits }
+        }
+        b'F' | b'S' => {
+            let digits = 3 + chance.below(3);
+            text.push(digit(digits));
+            Made::Speed { digits }
+        }
+        _ => {
+            let mark = chance.one_of(&[None, Some(b'+'), Some(b'D')]);
+            text.extend(mark);
+            let (mut a, mut b) = (chance.below(10), chance.below(10));
+            let dropped = match chance.below(3) {
+                1 if newer => Dropped::Leading,
+                2 if newer => Dropped::Trailing,
+                _ => Dropped::None,
+            };
+            match dropped {
+                Dropped::None if a + b == 0 => a = 1,
+                Dropped::Leading => b = b.max(1),
+                Dropped::Trailing => a = a.max(1),
+                Dropped::None => {}
+            }
+            match dropped {
+                Dropped::None => text.extend([digit(a), digit(b)]),
+                Dropped::Leading => text.extend([b'0', digit(a), digit(b)]),
+                Dropped::Trailing => text.extend([digit(a), digit(b), b'0']),
+            }
+            Made::Dimension { signed: mark.is_some(), digits: a + b, dropped }
+        }
+    }
+}
+
+/// A punched tape with the blocks that stand on it.
+pub struct Tape {
+    /// its rows
+    pub rows: Vec<u8>,
+    /// what they mean
+    pub blocks: Vec<Block>,
+}
+
+/// Rows as they are punched, with what may stand anywhere strewn between them.
+struct Punch<'c> {
+    chance: &'c mut Chance,
+    rows: Vec<u8>,
+    /// how many characters of 64 have something strewn before them
+    strewn: usize,
+    /// how many chances of 64 to break a rule are taken; 0 for a sound tape
+    slips: usize,
+}
+
+/// A sound tape of `most` blocks or fewer.
+pub fn tape(chance: &mut Chance, plan: &Plan, most: usize) -> Tape {
+    punched_tape(chance, plan, most, 0)
+}
+
+/// Rows that break the rules of words, signs, speeds, tabs and ends here and there.
+pub fn slipped_rows(chance: &mut Chance, plan: &Plan, most: usize) -> Vec<u8> {
+    punched_tape(chance, plan, most, 3).rows
+}
+
+fn punched_tape(chance: &mut Chance, plan: &Plan, most: usize, slips: usize) -> Tape {
+    let count = chance.below(most + 1);
+    let strewn = chance.one_of(&[0, 0, 1, 4, 24]);
+    let mut punch = Punch { chance, rows: Vec::new(), strewn, slips };
+    if punch.chance.happens(1, 3) {
+        let leader = punch.chance.below(8);
+        punch.rows.extend(vec![NUL; leader]);
+    }
+    punch.character(b'%');
+    punch.end();
+    let blocks = (0..count).map(|_| block(&mut punch, plan)).collect();
+    if punch.chance.happens(1, 3) {
+        punch.strew();
+    }
+    Tape { rows: punch.rows, blocks }
+}
+
+/// A sound tape of exactly `length` rows or a few more than one block fewer, filled up with NUL.
+pub fn long_tape(chance: &mut Chance, plan: &Plan, length: usize) -> Tape {
+    let mut punch = Punch { chance, rows: Vec::with_capacity(length + 4096), strewn: 1, slips: 0 };
+    punch.character(b'%');
+    punch.end();
+    let mut blocks = Vec::new();
+    loop {
+        let before = punch.rows.len();
+        let next = block(&mut punch, plan);
+        if punch.rows.len() > length {
+            punch.rows.truncate(before);
+            break;
+        }
+        blocks.push(next);
+    }
+    punch.rows.resize(length, NUL);
+    Tape { rows: punch.rows, blocks }
+}
+
+fn block(punch: &mut Punch, plan: &Plan) -> Block {
+    let skip = punch.chance.happens(1, 4);
+    if skip {
+        punch.character(b'/');
+    }
+    let alignment = punch.chance.happens(1, 4);
+    punch.character(if alignment { b':' } else { b'N' });
+    let sequence = punch.digits(plan.sequence);
+    let density = punch.chance.below(11);
+    let present: Vec<bool> = plan.items.iter().map(|_| punch.chance.happens(density, 10)).collect();
+    // tabs after the last word may stay or go
+    let needed = present.iter().rposition(|&p| p).map_or(0, |last| last + 1);
+    let kept = if punch.chance.happens(1, 2) { needed } else { needed + punch.chance.below(present.len() - needed + 1) };
+    let mut words = Vec::new();
+    for (&(letter, made), &present) in plan.items.iter().zip(&present).take(kept) {
+        if plan.tabs != punch.slips() {
+            punch.character(HT);
+        }
+        if present {
+            punch.character(letter);
+            words.push((letter, word(punch, made, plan.edition)));
+        }
+    }
+    punch.end();
+    Block { opening: Opening { skip, alignment, sequence }, words }
+}
+
+fn word(punch: &mut Punch, made: Made, edition: u32) -> Value {
+    match made {
+        Made::Plain { digits } => Value::Plain(punch.digits(digits)),
+        Made::Speed { digits } => Value::Speed(punch.speed(digits)),
+        Made::Dimension { signed, digits, dropped } => {
+            let sign = match (signed, edition) {
+                (false, _) => None,
+                (true, 1057) => Some(punch.chance.one_of(b"+-")),
+                (true, _) => punch.chance.one_of(&[None, Some(b'+'), Some(b'-')]),
+            };
+            match sign {
+                Some(sign) if !punch.slips() => punch.character(sign),
+                None if punch.slips() => punch.character(b'-'),
+                _ => {}
+            }
+            let standing = if dropped == Dropped::None { digits } else { 1 + punch.chance.below(digits) };
+            let mut number = punch.digits(standing) as i64;
+            if dropped == Dropped::Trailing {
+                for _ in standing..digits {
+                    number = number.wrapping_mul(10); // a slip may have punched a digit too many
+                }
+            }
+            Value::Dimension(if sign == Some(b'-') { -number } else { number })
+        }
+    }
+}
+
+impl Punch<'_> {
+    /// Whether a rule is broken here.
+    fn slips(&mut self) -> bool {
+        self.slips > 0 && self.chance.happens(self.slips, 64)
+    }
+
+    fn character(&mut self, character: u8) {
+        if self.chance.happens(self.strewn, 64) {
+            self.strew();
+        }
+        self.rows.push(punched(character));
+    }
+
+    /// NUL, DEL and control-outs, which may stand anywhere.
+    fn strew(&mut self) {
+        for _ in 0..1 + self.chance.below(3) {
+            match self.chance.below(4) {
+                0 => self.rows.push(punched(NUL)),
+                1 => self.rows.push(punched(DEL)),
+                _ => self.control_out(),
+            }
+        }
+    }
+
+    /// All but ":", "%" and ")" may stand inside, a second "(" and LF too.
+    fn control_out(&mut self) {
+        self.rows.push(punched(b'('));
+        for _ in 0..self.chance.below(12) {
+            let character = match self.chance.below(6) {
+                0 => self.chance.one_of(&[b'(', LF, CR, HT, NUL, DEL, BS, b' ', b'/', b'N']),
+                _ => any_character(self.chance),
+            };
+            if !matches!(character, b':' | b'%' | b')') {
+                self.rows.push(punched(character));
+            }
+        }
+        self.rows.push(punched(b')'));
+    }
+
+    /// LF, or CR directly before LF.
+    fn end(&mut self) {
+        if self.chance.happens(1, 3) {
+            self.character(CR);
+        }
+        if self.slips() {
+            let other = self.chance.one_of(&[CR, HT, b'/', b' ', b'X']);
+            self.character(other);
+        }
+        self.character(LF);
+    }
+
+    /// `count` digits: any, or all of one kind, or zeros at one end.
+    fn digits(&mut self, mut count: usize) -> u64 {
+        if self.slips() {
+            count = if self.chance.happens(1, 2) { count + 1 } else { count - 1 };
+        }
+        let kind = self.chance.below(8);
+        let zeros = self.chance.below(count + 1);
+        let mut number = 0;
+        for at in 0..count {
+            let digit = match kind {
+                0 => 0,
+                1 => 9,
+                2 if at < zeros => 0,
+                3 if at >= zeros => 0,
+                _ => self.chance.below(10) as u8,
+            };
+            self.character(b'0' + digit);
+            number = number * 10 + u64::from(digit);
+        }
+        number
+    }
+
+    /// A coded speed: all zeros, or a second digit that is not.
+    fn speed(&mut self, count: usize) -> u64 {
+        let zero = self.chance.happens(1, 8);
+        let slip = self.slips() || self.slips();
+        let d = if zero { 0 } else { self.chance.below(10) as u8 };
+        self.character(b'0' + d);
+        let mut number = 0;
+        for at in 1..count {
+            let digit = match at {
+                _ if zero => 0,
+                1 if slip => 0,
+                1 => 1 + self.chance.below(9) as u8,
+                _ => self.chance.below(10) as u8,
+            };
+            self.character(b'0' + digit);
+            number = number * 10 + u64::from(digit);
+        }
+        // the last digit of m stands for 10^(d+5-count) units
+        for _ in 0..usize::from(d) + 5 - count {
+            number *= 10;
+        }
+        if self.slips() {
+            self.character(b'0');
+        }
+        number
+    }
+}
+
+/// One of the 50.
+pub fn any_character(chance: &mut Chance) -> u8 {
+    loop {
+        let character = chance.below(128) as u8;
+        if is_character(character) {
+            return character;
+        }
+    }
+}
+
+#[cfg(test)]
+mod tests {
+    use super::*;
+    use crate::{count_blocks, reading, shorthand};
+
+    #[test]
+    fn what_was_made_is_read() {
+        let chance = &mut Chance::new(1);
+        for _ in 0..5_000 {
+            let plan = plan(chance);
+            let tape = tape(chance, &plan, 8);
+            let format = shorthand::parse(plan.edition, &plan.text).unwrap();
+            let mut blocks = Vec::new();
+            assert_eq!(reading::read(&format, &tape.rows, &mut blocks), Ok(()));
+            assert_eq!(blocks, tape.blocks);
+        }
+    }
+
+    #[test]
+    fn a_long_tape_has_its_length() {
+        let chance = &mut Chance::new(2);
+        let plan = plan(chance);
+        let tape = long_tape(chance, &plan, 50_000);
+        assert_eq!(tape.rows.len(), 50_000);
+        assert_eq!(count_blocks(plan.edition, &plan.text, &tape.rows), Ok(tape.blocks.len() as u64));
+    }
+}
