@@ -19,7 +19,7 @@ pub const CR: u8 = 13;
 pub const DEL: u8 = 127;
 
 // The two reasons for refusing a row stand above every character, so that the greatest entry over a
-// tape tells in one pass whether stages 1 and 2 have anything to say.
+// stretch of rows tells whether stages 1 and 2 have anything to say of it.
 const UNKNOWN: u8 = 0xFE;
 const ODD: u8 = 0xFF;
 
@@ -54,19 +54,27 @@ pub const fn punched(character: u8) -> u8 {
     character | ((character.count_ones() % 2) as u8) << 7
 }
 
+/// How many rows are looked at before it is asked whether any of them is at fault.
+const STRETCH: usize = 4096;
+
 /// Stages 1 and 2: the length, then every row's holes, then every row's character.
 pub fn judge(tape: &[u8]) -> Result<(), Refusal> {
     if tape.len() > MOST_ROWS {
         return Err(Refusal::new(4, MOST_ROWS));
     }
-    let worst = tape.iter().fold(0, |worst, &row| ROWS[row as usize].max(worst));
-    let number = match worst {
-        ODD => 5,
-        UNKNOWN => 6,
-        _ => return Ok(()),
-    };
-    let place = tape.iter().position(|&row| ROWS[row as usize] == worst);
-    Err(Refusal::new(number, place.unwrap_or(tape.len())))
+    let mut unknown = None;
+    for (stretch, rows) in tape.chunks(STRETCH).enumerate() {
+        let worst = rows.iter().fold(0, |worst, &row| ROWS[row as usize].max(worst));
+        let lowest = |reason| rows.iter().position(|&row| ROWS[row as usize] == reason).map(|at| stretch * STRETCH + at);
+        if worst >= UNKNOWN {
+            if let Some(odd) = lowest(ODD) {
+                return Err(Refusal::new(5, odd));
+            }
+            // an odd row further on still comes first
+            unknown = unknown.or_else(|| lowest(UNKNOWN));
+        }
+    }
+    unknown.map_or(Ok(()), |place| Err(Refusal::new(6, place)))
 }
 
 #[cfg(test)]
@@ -94,6 +102,12 @@ mod tests {
     fn a_later_odd_row_comes_before_an_unknown_one() {
         assert_eq!(judge(&[165, 33, 10, 37, 37]), Err(Refusal::new(5, 3)));
         assert_eq!(judge(&[165, 10, 33, 33]), Err(Refusal::new(6, 2)));
+        let mut tape = vec![0; 3 * STRETCH];
+        tape[STRETCH + 5] = 33;
+        tape[2 * STRETCH] = 33;
+        assert_eq!(judge(&tape), Err(Refusal::new(6, STRETCH + 5)));
+        tape[2 * STRETCH + 7] = 1;
+        assert_eq!(judge(&tape), Err(Refusal::new(5, 2 * STRETCH + 7)));
     }
 
     #[test]

@@ -1,1 +1,207 @@
-fn main(){}
+//! Times counting blocks by the proved library, through the C host, and by the second reader.
+
+use second_opinion::rows::{punched, MOST_ROWS};
+use second_opinion::trial::chance::Chance;
+use second_opinion::trial::door::Door;
+use second_opinion::trial::inputs::Ask;
+use std::error::Error;
+use std::fmt::Write;
+use std::hint::black_box;
+use std::process::ExitCode;
+use std::time::Instant;
+
+const USAGE: &str = "usage: bench [--repeats N] -- COMMAND...";
+const SEED: u64 = 2539;
+
+/// The formats timed: with tabs and every digit, and without tabs and with zeros dropped.
+const FORMATS: [(u32, &str); 2] =
+    [(1057, "N3.G2.X+42.Y+42.Z+42.F3.S3.T2.M2*"), (2539, "N4G2X+042Y+042Z+420I+042J+042F4S4T2M2*")];
+
+fn main() -> ExitCode {
+    match run() {
+        Ok(()) => ExitCode::SUCCESS,
+        Err(error) => {
+            eprintln!("bench: {error}");
+            ExitCode::FAILURE
+        }
+    }
+}
+
+fn run() -> Result<(), Box<dyn Error>> {
+    let mut words = std::env::args().skip(1);
+    let mut repeats = 15;
+    let mut command = Vec::new();
+    while let Some(word) = words.next() {
+        match word.as_str() {
+            "--repeats" => repeats = words.next().ok_or(USAGE)?.parse::<u64>()?.max(1),
+            "--" => command = words.by_ref().collect(),
+            _ => return Err(USAGE.into()),
+        }
+    }
+    let mut timer = Timer { door: Door::open(&command)?, repeats };
+    println!("seed {SEED}; each time is the shortest of {repeats}; a ratio is the library's time over the reader's");
+    for (edition, shorthand) in FORMATS {
+        println!("\n{edition} {shorthand}");
+        timer.stages(edition, shorthand)?;
+        timer.growth(edition, shorthand)?;
+    }
+    timer.door.close()?;
+    Ok(())
+}
+
+struct Timer {
+    door: Door,
+    repeats: u64,
+}
+
+/// The shortest times in nanoseconds.
+struct Times {
+    library: f64,
+    reader: f64,
+}
+
+impl Timer {
+    /// Times both on one tape; they must agree on the answer.
+    fn time(&mut self, edition: u32, shorthand: &str, tape: Vec<u8>) -> Result<(Times, u64), Box<dyn Error>> {
+        let ask = Ask::Count { edition, shorthand: shorthand.into(), tape };
+        let served = self.door.ask(std::iter::once(&ask), self.repeats)?.remove(0);
+        let mut reader = f64::INFINITY;
+        for _ in 0..self.repeats {
+            let start = Instant::now();
+            let answer = black_box(black_box(&ask).answer());
+            reader = reader.min(start.elapsed().as_nanos() as f64);
+            if answer != served.answer {
+                return Err(format!("library: {}, reader: {answer}", served.answer).into());
+            }
+        }
+        Ok((Times { library: served.nanoseconds as f64, reader }, served.answer.number))
+    }
+
+    /// A fault that only one stage sees, in the last row, ends the work when that stage has passed the tape.
+    fn stages(&mut self, edition: u32, shorthand: &str) -> Result<(), Box<dyn Error>> {
+        println!("rows per second on {MOST_ROWS} rows, each stage by itself:");
+        let sound = tape(edition, MOST_ROWS);
+        let mut before = Times { library: 0.0, reader: 0.0 };
+        let faults = [("1 parity", 5, Some(1)), ("2 characters", 6, Some(33)), ("3 control-outs", 7, Some(b'(')), ("4 blocks", 0, None)];
+        for (name, number, fault) in faults {
+            let mut rows = sound.clone();
+            if let (Some(fault), Some(last)) = (fault, rows.last_mut()) {
+                *last = fault;
+            }
+            let (times, found) = self.time(edition, shorthand, rows)?;
+            if found != number {
+                return Err(format!("stage {name} ended with {found}").into());
+            }
+            let line = format!(
+                "  {name:<15} library {}  reader {}",
+                speed(times.library - before.library),
+                speed(times.reader - before.reader)
+            );
+            println!("{line}");
+            before = times;
+        }
+        println!("  {:<15} library {}  reader {}", "all four", speed(before.library), speed(before.reader));
+        println!("ratio on {MOST_ROWS} rows: {:.2}", before.library / before.reader);
+        Ok(())
+    }
+
+    fn growth(&mut self, edition: u32, shorthand: &str) -> Result<(), Box<dyn Error>> {
+        println!("nanoseconds for a row as the tape grows:");
+        for rows in [10_000, 100_000, MOST_ROWS] {
+            let (times, _) = self.time(edition, shorthand, tape(edition, rows))?;
+            let each = |time: f64| time / rows as f64;
+            println!("  {rows:>9} rows   library {:>7.3}  reader {:>7.3}", each(times.library), each(times.reader));
+        }
+        Ok(())
+    }
+}
+
+/// Rows of the longest tape for each second, in millions.
+fn speed(nanoseconds: f64) -> String {
+    // a stage that shares the pass of the one before has no time of its own
+    if nanoseconds * 50.0 < MOST_ROWS as f64 {
+        format!("{:>8}    ", "none")
+    } else {
+        format!("{:>8.1} mio", MOST_ROWS as f64 * 1_000.0 / nanoseconds)
+    }
+}
+
+/// A sound tape of `length` rows with mixed words, a remark now and then, and NUL up to its length.
+fn tape(edition: u32, length: usize) -> Vec<u8> {
+    let chance = &mut Chance::new(SEED);
+    let mut text = String::from("%\r\n");
+    loop {
+        let before = text.len();
+        if edition == 1057 {
+            tabbed_block(chance, &mut text);
+        } else {
+            dropped_block(chance, &mut text);
+        }
+        // the last row is a NUL, which any stage's fault can take the place of
+        if text.len() >= length {
+            text.truncate(before);
+            break;
+        }
+    }
+    let mut rows: Vec<u8> = text.bytes().map(punched).collect();
+    rows.resize(length, 0);
+    rows
+}
+
+fn opening(chance: &mut Chance, text: &mut String, digits: usize) {
+    if chance.happens(1, 40) {
+        text.push_str("(SECOND CUT\n(AFTER TURNING)");
+    }
+    if chance.happens(1, 20) {
+        text.push('/');
+    }
+    let letter = if chance.happens(1, 50) { ':' } else { 'N' };
+    let _ = write!(text, "{letter}{:0digits$}", chance.below(1_000));
+}
+
+fn end(chance: &mut Chance, text: &mut String) {
+    text.push_str(if chance.happens(1, 4) { "\r\n" } else { "\n" });
+}
+
+fn tabbed_block(chance: &mut Chance, text: &mut String) {
+    opening(chance, text, 3);
+    let words = 1 + chance.below(8);
+    for letter in "GXYZFSTM".chars().take(words) {
+        text.push('\t');
+        if chance.happens(1, 4) {
+            continue;
+        }
+        let _ = match letter {
+            'X' | 'Y' | 'Z' => write!(text, "{letter}{}{:06}", sign(chance), chance.below(1_000_000)),
+            'F' | 'S' => write!(text, "{letter}{}", code(chance, 3)),
+            _ => write!(text, "{letter}{:02}", chance.below(100)),
+        };
+    }
+    end(chance, text);
+}
+
+fn dropped_block(chance: &mut Chance, text: &mut String) {
+    opening(chance, text, 4);
+    for letter in "GXYZIJFSTM".chars() {
+        if chance.happens(1, 2) {
+            continue;
+        }
+        let places = 10usize.pow(1 + chance.below(6) as u32);
+        let _ = match letter {
+            'X' | 'Y' | 'Z' | 'I' | 'J' => write!(text, "{letter}{}{}", sign(chance), chance.below(places)),
+            'F' | 'S' => write!(text, "{letter}{}", code(chance, 4)),
+            _ => write!(text, "{letter}{:02}", chance.below(100)),
+        };
+    }
+    end(chance, text);
+}
+
+fn sign(chance: &mut Chance) -> char {
+    chance.one_of(&['+', '-'])
+}
+
+/// A code whose second digit is not zero.
+fn code(chance: &mut Chance, digits: u32) -> usize {
+    let one = 10usize.pow(digits - 1);
+    (1 + chance.below(9)) * one + one / 10 + chance.below(one - one / 10)
+}

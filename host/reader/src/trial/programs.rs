@@ -296,7 +296,7 @@ impl Punch<'_> {
     /// A coded speed: all zeros, or a second digit that is not.
     fn speed(&mut self, count: usize) -> u64 {
         let zero = self.chance.happens(1, 8);
-        let slip = self.slips() || self.slips();
+        let slip = self.slips > 0 && self.chance.happens(1, 4); // refusal 13 is the rarest
         let d = if zero { 0 } else { self.chance.below(10) as u8 };
         self.character(b'0' + d);
         let mut number = 0;
