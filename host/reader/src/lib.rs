@@ -14,7 +14,6 @@ pub mod shorthand;
 pub mod speeds;
 pub mod trial;
 
-
 use std::fmt;
 
 /// A refusal by its number in the rules, and its place.

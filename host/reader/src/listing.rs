@@ -78,10 +78,7 @@ mod tests {
     fn the_example() {
         let text = "%\nN001\tG01\tX+012500\tF615\n/N002\t\tX-000250\n";
         assert_eq!(text.len(), 41);
-        assert_eq!(
-            listing(&input("1057 N3.G2.X+42.F3.M2*\n", text)),
-            "N 001 - G1 X12500 F1500000000\nN 002 / X-250\nblocks 2\n"
-        );
+        assert_eq!(listing(&input("1057 N3.G2.X+42.F3.M2*\n", text)), "N 001 - G1 X12500 F1500000000\nN 002 / X-250\nblocks 2\n");
     }
 
     #[test]

@@ -14,8 +14,7 @@ const USAGE: &str = "usage: bench [--repeats N] -- COMMAND...";
 const SEED: u64 = 2539;
 
 /// The formats timed: with tabs and every digit, and without tabs and with zeros dropped.
-const FORMATS: [(u32, &str); 2] =
-    [(1057, "N3.G2.X+42.Y+42.Z+42.F3.S3.T2.M2*"), (2539, "N4G2X+042Y+042Z+420I+042J+042F4S4T2M2*")];
+const FORMATS: [(u32, &str); 2] = [(1057, "N3.G2.X+42.Y+42.Z+42.F3.S3.T2.M2*"), (2539, "N4G2X+042Y+042Z+420I+042J+042F4S4T2M2*")];
 
 fn main() -> ExitCode {
     match run() {
@@ -82,7 +81,8 @@ impl Timer {
         println!("rows per second on {MOST_ROWS} rows, each stage by itself:");
         let sound = tape(edition, MOST_ROWS);
         let mut before = Times { library: 0.0, reader: 0.0 };
-        let faults = [("1 parity", 5, Some(1)), ("2 characters", 6, Some(33)), ("3 control-outs", 7, Some(b'(')), ("4 blocks", 0, None)];
+        let faults =
+            [("1 parity", 5, Some(1)), ("2 characters", 6, Some(33)), ("3 control-outs", 7, Some(b'(')), ("4 blocks", 0, None)];
         for (name, number, fault) in faults {
             let mut rows = sound.clone();
             if let (Some(fault), Some(last)) = (fault, rows.last_mut()) {

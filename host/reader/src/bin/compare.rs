@@ -32,6 +32,9 @@ fn main() -> ExitCode {
     }
 }
 
+/// Makes the inputs of one batch from its seed.
+type Batch<'a> = Box<dyn Fn(u64) -> Vec<Input> + Sync + 'a>;
+
 struct Order {
     door: bool,
     inputs: usize,
@@ -74,32 +77,32 @@ impl Order {
         }
     }
 
-    /// The batch numbered `at`, or none past the last: tapes, then long tapes, then numbers.
-    fn batch(&self, at: usize) -> Option<Vec<Input>> {
-        let tapes = self.inputs.div_ceil(BATCH);
-        let long = LONG / LONG_BATCH;
-        let seed = self.seed + at as u64;
-        if at < tapes {
-            Some(inputs::tapes(seed, BATCH.min(self.inputs - at * BATCH)))
-        } else if at < tapes + long {
-            Some(inputs::long_tapes(seed, LONG_BATCH))
-        } else if at == tapes + long {
-            Some(inputs::numbers(seed, self.inputs / 5))
-        } else {
-            None
+    /// The batches, each made when its turn comes: tapes, long tapes, numbers, and what is tried exhaustively.
+    fn batches(&self) -> Vec<Batch<'_>> {
+        let mut batches: Vec<Batch> = Vec::new();
+        for first in (0..self.inputs).step_by(BATCH) {
+            batches.push(Box::new(move |seed| inputs::tapes(seed, BATCH.min(self.inputs - first))));
         }
-    }
-
-    fn batches(&self) -> usize {
-        self.inputs.div_ceil(BATCH) + LONG / LONG_BATCH + 1
+        for _ in 0..LONG / LONG_BATCH {
+            batches.push(Box::new(|seed| inputs::long_tapes(seed, LONG_BATCH)));
+        }
+        batches.push(Box::new(|seed| inputs::numbers(seed, self.inputs / 5)));
+        for start in inputs::SHORTHAND_STARTS {
+            batches.push(Box::new(|_| inputs::short_shorthands(start)));
+        }
+        for start in inputs::TAPE_STARTS {
+            batches.push(Box::new(|_| inputs::short_tapes(start)));
+        }
+        batches
     }
 
     fn compare_door(&self) -> Result<bool, Box<dyn Error>> {
-        println!("seeds {} to {}, one for each batch", self.seed, self.seed + self.batches() as u64 - 1);
+        let batches = self.batches();
+        println!("seeds {} to {}, one for each batch", self.seed, self.seed + batches.len() as u64 - 1);
         let next = AtomicUsize::new(0);
         let tally = Mutex::new(Tally::default());
         let ends: Vec<io::Result<bool>> = thread::scope(|scope| {
-            let workers: Vec<_> = (0..self.jobs).map(|_| scope.spawn(|| self.work_at_door(&next, &tally))).collect();
+            let workers: Vec<_> = (0..self.jobs).map(|_| scope.spawn(|| self.work_at_door(&batches, &next, &tally))).collect();
             workers.into_iter().map(|worker| worker.join().unwrap_or(Ok(false))).collect()
         });
         let mut well = true;
@@ -113,9 +116,14 @@ impl Order {
         Ok(tally.report() && well)
     }
 
-    fn work_at_door(&self, next: &AtomicUsize, tally: &Mutex<Tally>) -> io::Result<bool> {
+    fn work_at_door(&self, batches: &[Batch], next: &AtomicUsize, tally: &Mutex<Tally>) -> io::Result<bool> {
         let mut door = Door::open(&self.command)?;
-        while let Some(batch) = self.batch(next.fetch_add(1, Ordering::Relaxed)) {
+        loop {
+            let at = next.fetch_add(1, Ordering::Relaxed);
+            let Some(make) = batches.get(at) else {
+                return door.close();
+            };
+            let batch = make(self.seed + at as u64);
             let served = door.ask(batch.iter().map(|input| &input.ask), 0)?;
             let mut own = Tally::default();
             for (input, served) in batch.iter().zip(served) {
@@ -123,7 +131,6 @@ impl Order {
             }
             tally.lock().map_err(|_| io::Error::other("a worker failed"))?.add(&own);
         }
-        door.close()
     }
 
     fn compare_listing(&self) -> Result<bool, Box<dyn Error>> {
@@ -158,11 +165,8 @@ impl Order {
 
     /// What the listing program prints for `input`.
     fn list(&self, input: &[u8]) -> io::Result<Vec<u8>> {
-        let mut child = Command::new(&self.command[0])
-            .args(&self.command[1..])
-            .stdin(Stdio::piped())
-            .stdout(Stdio::piped())
-            .spawn()?;
+        let mut child =
+            Command::new(&self.command[0]).args(&self.command[1..]).stdin(Stdio::piped()).stdout(Stdio::piped()).spawn()?;
         let stdin = child.stdin.take();
         thread::scope(|scope| {
             scope.spawn(move || {

@@ -6,8 +6,8 @@ use crate::rows::{punched, BS, CR, HT, LF};
 
 /// Characters that mean something to the rules, the rarer ones as often as the digits.
 const TELLING: &[u8] = &[
-    LF, CR, HT, BS, b' ', b'%', b'%', b'(', b'(', b')', b')', b'+', b'-', b'/', b'0', b'0', b'1', b'9', b':', b':', b'N', b'X', b'G',
-    b'M', b'F', b'S', b'T', b'D', b'E',
+    LF, CR, HT, BS, b' ', b'%', b'%', b'(', b'(', b')', b')', b'+', b'-', b'/', b'0', b'0', b'1', b'9', b':', b':', b'N', b'X',
+    b'G', b'M', b'F', b'S', b'T', b'D', b'E',
 ];
 
 /// Does one to three kinds of damage to a tape.
@@ -80,9 +80,9 @@ fn some_row(chance: &mut Chance) -> u8 {
 
 /// Pieces that a shorthand is made of, sound and unsound.
 const PIECES: &[&str] = &[
-    ".", ".", ".", "*", "G2", "G3", "M2", "M", "F3", "F4", "F5", "F6", "S3", "S5", "T1", "T9", "T0", "T", "X", "Y", "Z", "U", "V",
-    "W", "P", "Q", "R", "I", "J", "K", "A", "B", "C", "D", "E", "+", "D", "42", "00", "0", "04", "40", "042", "420", "040", "005",
-    "500", "000", "99", "142", "N3", "N", " ",
+    ".", ".", ".", "*", "G2", "G3", "M2", "M", "F3", "F4", "F5", "F6", "S3", "S5", "T1", "T9", "T0", "T", "X", "Y", "Z", "U",
+    "V", "W", "P", "Q", "R", "I", "J", "K", "A", "B", "C", "D", "E", "+", "D", "42", "00", "0", "04", "40", "042", "420", "040",
+    "005", "500", "000", "99", "142", "N3", "N", " ",
 ];
 
 /// A shorthand put together from pieces without regard to the rules.

@@ -1,6 +1,6 @@
 //! The pipe to the C host: requests and answers in frames, as host/door.c has them.
 
-use super::inputs::{Ask, Answer};
+use super::inputs::{Answer, Ask};
 use std::io::{self, BufReader, Read, Write};
 use std::process::{Child, ChildStdin, ChildStdout, Command, Stdio};
 use std::thread;

@@ -2,7 +2,7 @@
 
 use super::chance::Chance;
 use super::{damage, programs};
-use crate::rows::MOST_ROWS;
+use crate::rows::{punched, LF, MOST_ROWS};
 use crate::{count_blocks, listing, punching, speeds, Refusal};
 use std::fmt;
 
@@ -109,6 +109,7 @@ pub fn tapes(seed: u64, size: usize) -> Vec<Input> {
         match chance.below(200) {
             0 => cut_tapes(chance, &mut inputs),
             1 => cut_shorthands(chance, &mut inputs),
+            2 if chance.happens(1, 2) => bad_middling_tape(chance, &mut inputs),
             2..=5 => other_edition(chance, &mut inputs),
             6..=20 => odd_holes(chance, &mut inputs),
             21..=50 => bad_shorthand(chance, &mut inputs),
@@ -140,6 +141,18 @@ fn bad_tape(chance: &mut Chance, inputs: &mut Vec<Input>) {
     };
     if chance.happens(1, 16) {
         damage::tape(chance, &mut rows);
+    }
+    inputs.push(Input::count(plan.edition, &plan.text, rows));
+}
+
+/// Some thousands of rows with faults of several stages, which must not speak out of turn.
+fn bad_middling_tape(chance: &mut Chance, inputs: &mut Vec<Input>) {
+    let plan = programs::plan(chance);
+    let length = 4_000 + chance.below(12_000);
+    let mut rows = programs::long_tape(chance, &plan, length).rows;
+    for _ in 0..1 + chance.below(3) {
+        let at = chance.below(rows.len());
+        rows[at] = chance.one_of(&[1, 33, 33, punched(b'('), punched(b')'), punched(b'X')]);
     }
     inputs.push(Input::count(plan.edition, &plan.text, rows));
 }
@@ -230,7 +243,7 @@ pub fn long_tapes(seed: u64, size: usize) -> Vec<Input> {
 
 fn long_tape(chance: &mut Chance, at: usize) -> Input {
     let plan = programs::plan(chance);
-    if at % 16 == 0 {
+    if at & 15 == 0 {
         let tape = programs::long_tape(chance, &plan, MOST_ROWS);
         let blocks = tape.blocks.len() as u64;
         return Input::count(plan.edition, &plan.text, tape.rows).known(Ok(blocks));
@@ -240,6 +253,64 @@ fn long_tape(chance: &mut Chance, at: usize) -> Input {
     let length = MOST_ROWS + 1 + if chance.happens(1, 2) { 0 } else { chance.below(1000) };
     let tape = vec![row; length];
     Input::count(plan.edition, &plan.text, tape).known(Err(Refusal::new(4, MOST_ROWS)))
+}
+
+/// Beginnings of shorthands, each followed by every short text of telling bytes.
+pub const SHORTHAND_STARTS: &[&str] =
+    &["", "N", "N3", "N4", "N3.", "N3.X", "N3.XD", "N3.X0", "N3X", "N3.M2", "N3M2", "N3.X42", "N3X42", "N3.T1."];
+const SHORTHAND_BYTES: &[u8] = b".XIGMF+D023*N";
+
+/// Every shorthand of `start` and at most three telling bytes, by both editions.
+pub fn short_shorthands(start: &str) -> Vec<Input> {
+    let mut inputs = Vec::new();
+    for end in texts(SHORTHAND_BYTES, 3) {
+        let text = [start.as_bytes(), &end].concat();
+        inputs.extend([1057, 2539].map(|edition| Input::count(edition, &text, vec![punched(b'%'), punched(LF)])));
+    }
+    inputs
+}
+
+/// Editions, formats and beginnings of tapes, each followed by every short run of telling characters.
+pub const TAPE_STARTS: &[(u32, &str, &str)] = &[
+    (1057, "N3.X+11.F3*", ""),
+    (1057, "N3.X+11.F3*", "%"),
+    (1057, "N3.X+11.F3*", "%\nN001"),
+    (1057, "N3.X+11.F3*", "%\nN001\t"),
+    (1057, "N3.X+11.F3*", "%\nN001\tX"),
+    (1057, "N3.X+11.F3*", "%\nN001\t\tF1"),
+    (2539, "N3.X11.F3*", "%\n/:001\tX0"),
+    (2539, "N3X+011F3*", "%\nN001"),
+    (2539, "N3X+011F3*", "%\nN001X"),
+    (2539, "N3XD110F3*", "%\nN001X-0"),
+    (2539, "N3X11F3*", "%\nN001X11F0"),
+    (2539, "N3*", "%\nN00"),
+    (2539, "N3*", "%\n(A"),
+];
+const TAPE_CHARACTERS: &[u8] = b"\0\t\n\r0+-/:()%NXF";
+
+/// Every tape of a beginning and at most three telling characters.
+pub fn short_tapes(start: &(u32, &str, &str)) -> Vec<Input> {
+    let (edition, shorthand, start) = start;
+    let tape = |end: Vec<u8>| start.bytes().chain(end).map(punched).collect();
+    texts(TAPE_CHARACTERS, 3).into_iter().map(|end| Input::count(*edition, shorthand.as_bytes(), tape(end))).collect()
+}
+
+/// Every text of at most `most` of the given bytes.
+fn texts(bytes: &[u8], most: usize) -> Vec<Vec<u8>> {
+    let mut all = vec![Vec::new()];
+    let mut longest = 0..1;
+    for _ in 0..most {
+        let next = all.len();
+        for shorter in longest {
+            for &byte in bytes {
+                let mut text: Vec<u8> = all[shorter].clone();
+                text.push(byte);
+                all.push(text);
+            }
+        }
+        longest = next..all.len();
+    }
+    all
 }
 
 /// Codes, speeds and heads: all edges, and `size` random ones.
