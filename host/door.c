@@ -22,7 +22,7 @@ struct host_time {
 };
 int clock_gettime(int clock, struct host_time *time);
 
-enum { PROTECT_NONE = 0, PROTECT_READ_WRITE = 3, MAP_OWN_ANONYMOUS = 0x22, CLOCK_STEADY = 1 };
+enum { PROTECT_NONE = 0, PROTECT_READ_WRITE = 3, MAP_OWN_ANONYMOUS = 0x22, CLOCK_OF_PROCESS = 2 };
 
 /* A multiple of every page size in use. */
 #define GUARD ((size_t)65536)
@@ -360,9 +360,10 @@ static size_t get(void *to, size_t length) {
     return got;
 }
 
+/* The processor's time spent on this process, so that what else the machine does is not counted. */
 static uint64_t now(void) {
     struct host_time time = {0, 0};
-    if (clock_gettime(CLOCK_STEADY, &time) != 0) {
+    if (clock_gettime(CLOCK_OF_PROCESS, &time) != 0) {
         fail("no clock");
     }
     return (uint64_t)time.seconds * 1000000000U + (uint64_t)time.nanoseconds;

@@ -8,7 +8,6 @@ use std::error::Error;
 use std::fmt::Write;
 use std::hint::black_box;
 use std::process::ExitCode;
-use std::time::Instant;
 
 const USAGE: &str = "usage: bench [--repeats N] -- COMMAND...";
 const SEED: u64 = 2539;
@@ -38,7 +37,9 @@ fn run() -> Result<(), Box<dyn Error>> {
         }
     }
     let mut timer = Timer { door: Door::open(&command)?, repeats };
-    println!("seed {SEED}; each time is the shortest of {repeats}; a ratio is the library's time over the reader's");
+    println!(
+        "seed {SEED}; each time is the processor's, the shortest of {repeats}; a ratio is the library's time over the reader's"
+    );
     for (edition, shorthand) in FORMATS {
         println!("\n{edition} {shorthand}");
         timer.stages(edition, shorthand)?;
@@ -46,6 +47,30 @@ fn run() -> Result<(), Box<dyn Error>> {
     }
     timer.door.close()?;
     Ok(())
+}
+
+/// Seconds and nanoseconds, as the C library has them.
+#[repr(C)]
+struct Time {
+    seconds: i64,
+    nanoseconds: i64,
+}
+
+extern "C" {
+    fn clock_gettime(clock: i32, time: *mut Time) -> i32;
+}
+
+/// The clock of the processor's time spent on this process (Linux), as the C host has it.
+const CLOCK_OF_PROCESS: i32 = 2;
+
+/// The processor's time in nanoseconds, so that what else the machine does is not counted. The standard library has
+/// only the time on the wall.
+fn now() -> u64 {
+    let mut time = Time { seconds: 0, nanoseconds: 0 };
+    // Safety: the call writes one Time, and keeps nothing.
+    let status = unsafe { clock_gettime(CLOCK_OF_PROCESS, &mut time) };
+    assert_eq!(status, 0, "no clock");
+    time.seconds as u64 * 1_000_000_000 + time.nanoseconds as u64
 }
 
 struct Timer {
@@ -66,9 +91,9 @@ impl Timer {
         let served = self.door.ask(std::iter::once(&ask), self.repeats)?.remove(0);
         let mut reader = f64::INFINITY;
         for _ in 0..self.repeats {
-            let start = Instant::now();
+            let start = now();
             let answer = black_box(black_box(&ask).answer());
-            reader = reader.min(start.elapsed().as_nanos() as f64);
+            reader = reader.min((now() - start) as f64);
             if answer != served.answer {
                 return Err(format!("library: {}, reader: {answer}", served.answer).into());
             }
