@@ -156,10 +156,7 @@ impl Order {
             end?;
         }
         let tally = tally.into_inner()?;
-        println!(
-            "listings: {} compared ({} with blocks, {} refused), {} differences",
-            tally.compared, tally.listed, tally.refused, tally.differences
-        );
+        println!("listings: {} compared, seen {}, {} differences", tally.compared, seen(&tally.seen), tally.differences);
         Ok(tally.differences == 0 && tally.compared == self.inputs as u64)
     }
 
@@ -245,8 +242,7 @@ fn seen(counts: &[u64; 22]) -> String {
 #[derive(Default)]
 struct Listings {
     compared: u64,
-    listed: u64,
-    refused: u64,
+    seen: [u64; 22],
     differences: u64,
 }
 
@@ -254,11 +250,8 @@ impl Listings {
     fn take(&mut self, input: &[u8], known: &Option<String>, found: &[u8]) {
         let reader = listing(input);
         self.compared += 1;
-        if reader.starts_with("refused") {
-            self.refused += 1;
-        } else {
-            self.listed += 1;
-        }
+        let number = reader.strip_prefix("refused ").and_then(|rest| rest.split(' ').next()?.parse().ok());
+        self.seen[number.unwrap_or(0)] += 1;
         if found == reader.as_bytes() && known.as_ref().is_none_or(|known| *known == reader) {
             return;
         }

@@ -365,7 +365,8 @@ fn listing_input(chance: &mut Chance, at: usize) -> (Vec<u8>, Option<String>) {
             let text = listing::text(plan.sequence as u32, &tape.blocks);
             return ([header, tape.rows].concat(), Some(text));
         }
-        5..=8 => damage::tape(chance, &mut tape.rows),
+        5 | 6 => damage::tape(chance, &mut tape.rows),
+        7 | 8 => tape.rows = programs::slipped_rows(chance, &plan, 6),
         9 => damage::shorthand(chance, &mut header),
         _ => header = odd_header(chance, &plan.text),
     }
