@@ -260,10 +260,10 @@ pub const SHORTHAND_STARTS: &[&str] =
     &["", "N", "N3", "N4", "N3.", "N3.X", "N3.XD", "N3.X0", "N3X", "N3.M2", "N3M2", "N3.X42", "N3X42", "N3.T1."];
 const SHORTHAND_BYTES: &[u8] = b".XIGMF+D023*N";
 
-/// Every shorthand of `start` and at most three telling bytes, by both editions.
+/// Every shorthand of `start` and at most four telling bytes, by both editions.
 pub fn short_shorthands(start: &str) -> Vec<Input> {
     let mut inputs = Vec::new();
-    for end in texts(SHORTHAND_BYTES, 3) {
+    for end in texts(SHORTHAND_BYTES, 4) {
         let text = [start.as_bytes(), &end].concat();
         inputs.extend([1057, 2539].map(|edition| Input::count(edition, &text, vec![punched(b'%'), punched(LF)])));
     }
@@ -288,11 +288,11 @@ pub const TAPE_STARTS: &[(u32, &str, &str)] = &[
 ];
 const TAPE_CHARACTERS: &[u8] = b"\0\t\n\r0+-/:()%NXF";
 
-/// Every tape of a beginning and at most three telling characters.
+/// Every tape of a beginning and at most four telling characters.
 pub fn short_tapes(start: &(u32, &str, &str)) -> Vec<Input> {
     let (edition, shorthand, start) = start;
     let tape = |end: Vec<u8>| start.bytes().chain(end).map(punched).collect();
-    texts(TAPE_CHARACTERS, 3).into_iter().map(|end| Input::count(*edition, shorthand.as_bytes(), tape(end))).collect()
+    texts(TAPE_CHARACTERS, 4).into_iter().map(|end| Input::count(*edition, shorthand.as_bytes(), tape(end))).collect()
 }
 
 /// Every text of at most `most` of the given bytes.
