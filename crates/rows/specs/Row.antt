@@ -1,9 +1,11 @@
 -- One row of the tape: its character, its parity, and what the table of all 256 rows must hold (document 01, "Rows and characters").
-use Prim.Native.Nat.{ℕ, _+_, _%_}
+use Prim.Native.Nat.{ℕ, _+_, _%_, _<_}
+use mathlib.Core.Path.{_≡_}
 use mathlib.Core.Bool.{Bool, true, false, _||_, cond}
 use mathlib.Core.List.{List, [], _∷_}
 use lib.Count.{ones}
 use lib.Dec.{eqb}
+use lib.ListN.{length, getD}
 
 -- the lower seven bits are the character
 abbrev pub character : ℕ → ℕ
@@ -26,3 +28,8 @@ among c (d ∷ ds) = eqb c d || among c ds
 -- what the table holds of a row: its character, or 128 and the number of the refusal (5 odd, 6 not one of the 50)
 unfoldable pub entry : ℕ → ℕ
 entry b = cond (even b) (cond (among (character b) characters) (character b) (128 + 6)) (128 + 5)
+
+-- the table: the entry of each of the 256 rows at its own place
+pub record Tabulated (table : List ℕ) : Type 0 where
+  pub long : 256 ≡ length table
+  pub entries : (b : ℕ) → b < 256 → getD table b 0 ≡ entry b

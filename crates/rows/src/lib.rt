@@ -3,7 +3,7 @@ ghost use mathlib.Core.Path.{_≡_};
 ghost use Prim.Native.Nat.{_+_};
 ghost use lib.Dec.{eqb};
 ghost use Rattle.rows.specs.Answer.{told};
-ghost use Rattle.rows.specs.Row.{entry, even};
+ghost use Rattle.rows.specs.Row.{entry, Tabulated, even};
 ghost use Rattle.rows.specs.Stages.{lowest, step, unclosed, scan, judged};
 ghost use Rattle.rows.specs.Kept.{turn, keptAt, firstOf};
 
@@ -65,13 +65,6 @@ const ODD: u8 = 133;
 
 const FOREIGN: u8 = 134;
 
-// What the table holds of a row.
-pub fn entry_of(row: u8) -> u8
-    ensures { λ r. ⌜ r ≡ entry row ⌝ }
-{
-    ROWS[row as usize]
-}
-
 // Whether a row has an even number of holes, by the count itself and not by the table.
 pub fn has_even_holes(row: u8) -> bool
     ensures { λ r. ⌜ r ≡ even row ⌝ }
@@ -79,13 +72,36 @@ pub fn has_even_holes(row: u8) -> bool
     u8::count_ones(row) % 2 == 0
 }
 
-// The lowest row whose table entry is the wanted one.
-fn find_entry(tape: &[u8], wanted: u8) -> Found
+// The table, laid out once for a whole tape and not for each row.
+fn lay_out() -> [u8; 256]
+    ensures { λ r. ⌜ Tabulated r ⌝ }
+{
+    ROWS
+}
+
+fn look_up(table: &[u8], row: u8) -> u8
+    requires { ⌜ Tabulated (now table) ⌝ }
+    ensures { λ r. ⌜ r ≡ entry row ⌝ }
+{
+    table[row as usize]
+}
+
+// What the table holds of a row.
+pub fn entry_of(row: u8) -> u8
+    ensures { λ r. ⌜ r ≡ entry row ⌝ }
+{
+    let table = lay_out();
+    look_up(&table[..], row)
+}
+
+// The lowest row whose entry is the wanted one.
+fn find_entry(tape: &[u8], table: &[u8], wanted: u8) -> Found
+    requires { ⌜ Tabulated (now table) ⌝ }
     ensures { λ r. ⌜ r ≡ lowest (λ b. eqb (entry b) wanted) 0 (now (tape .entry)) ⌝ }
 {
     let mut i = 0;
     while i < tape.len() {
-        if entry_of(tape[i]) == wanted {
+        if look_up(table, tape[i]) == wanted {
             return Found::At(i);
         }
         i += 1;
@@ -155,10 +171,11 @@ pub fn check(tape: &[u8]) -> Checked
             place: LIMIT,
         });
     }
-    if let Found::At(place) = find_entry(tape, ODD) {
+    let table = lay_out();
+    if let Found::At(place) = find_entry(tape, &table[..], ODD) {
         return Checked::Refused(Refusal { number: 5, place });
     }
-    if let Found::At(place) = find_entry(tape, FOREIGN) {
+    if let Found::At(place) = find_entry(tape, &table[..], FOREIGN) {
         return Checked::Refused(Refusal { number: 6, place });
     }
     if let Found::At(place) = find_fault(tape) {

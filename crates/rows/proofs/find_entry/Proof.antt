@@ -13,26 +13,22 @@ use Rattle.rows.proofs.find_entry.Statement.{statement}
 use Rattle.rows.proofs.find_entry.Tie as tie
 
 abbrev Inv-loop : tie.InvT-loop
-Inv-loop tape wanted i₀ i =
-    (i ≤ length tape) × (lowest (λ b. eqb (entry b) wanted) 0 tape ≡ lowest (λ b. eqb (entry b) wanted) i (drop i tape))
+Inv-loop tape table wanted i₀ i = (i ≤ length tape) × (lowest (λ b. eqb (entry b) wanted) 0 tape ≡ lowest (λ b. eqb (entry b) wanted) i (drop i tape))
 
 abbrev μ-loop : tie.MeasureT-loop
-μ-loop tape wanted i₀ i = length tape - i
+μ-loop tape table wanted i₀ i = length tape - i
 
 loop-holds : tie.Need-loop-holds Inv-loop μ-loop
 loop-holds c = search needs
 
-shared-slice-read-entry-of : tie.Need-shared-slice-read-entry-of Inv-loop μ-loop
-shared-slice-read-entry-of c = search needs
+shared-slice-read-look-up : tie.Need-shared-slice-read-look-up Inv-loop μ-loop
+shared-slice-read-look-up c = search needs
 
-entry-of-requires : tie.Need-entry-of-requires Inv-loop μ-loop
-entry-of-requires c κs = search needs
+look-up-requires : tie.Need-look-up-requires Inv-loop μ-loop
+look-up-requires c κs = search needs
 
 returns : tie.Need-returns Inv-loop μ-loop
-returns c =
-    sym
-    (c .before .before .before .before .loop .inv .1
-    ∙ lowest-hit _ _ _ (c .before .before .before .loop-test .taken) (eq-eqb _ _ (sym (c .before .entry-of .ensures) ∙ c .if1 .taken)))
+returns c = sym (c .before .before .before .before .loop .inv .1 ∙ lowest-hit _ _ _ (c .before .before .before .loop-test .taken) (eq-eqb _ _ (sym (c .before .look-up .ensures) ∙ c .if1 .taken)))
 
 add-i : tie.Need-add-i Inv-loop μ-loop
 add-i c = search needs
@@ -41,11 +37,7 @@ loop-less : tie.Need-loop-less Inv-loop μ-loop
 loop-less c = search needs
 
 loop-again : tie.Need-loop-again Inv-loop μ-loop
-loop-again c = (
-  search needs,
-  c .before .before .before .before .loop .inv .1
-      ∙ lowest-miss _ _ _ (c .before .before .before .loop-test .taken) (ne-eqb _ _ (λ e. c .if1 .left (c .before .entry-of .ensures ∙ e))),
-)
+loop-again c = (search needs, c .before .before .before .before .loop .inv .1 ∙ lowest-miss _ _ _ (c .before .before .before .loop-test .taken) (ne-eqb _ _ (λ e. c .if1 .left (c .before .look-up .ensures ∙ e))))
 
 returns-2 : tie.Need-returns-2 Inv-loop μ-loop
 returns-2 c = sym (c .before .loop .inv .1 ∙ lowest-end _ _ _ (c .loop-test .left))
@@ -57,8 +49,8 @@ find-entry-spec =
     Inv-loop
     μ-loop
     loop-holds
-    shared-slice-read-entry-of
-    entry-of-requires
+    shared-slice-read-look-up
+    look-up-requires
     returns
     add-i
     loop-less
