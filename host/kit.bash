@@ -20,7 +20,6 @@ need() { # COMMAND WHAT-FOR
 # The kit is found from its command rt. Its linker, loader and C library are for x86-64.
 find_kit() {
     need rt "building the library (the Rattle kit)"
-    need cargo "building the second reader"
     machine=$(uname -m)
     kit=$(dirname "$(dirname "$(readlink -f "$(command -v rt)")")")
     tools=$kit/on/$machine/toolchain

@@ -8,7 +8,8 @@ use lib.Seq.{sets-eq}
 use borrow.Author.Tests.{le-leb, lt-leb}
 use Rattle.rows.specs.Answer.{Answer, taken, refused}
 use Rattle.punching.specs.Answers.{written, after}
-use Rattle.lines.specs.Line.{Put, room, lineIn}
+use Rattle.lines.specs.Answers.{room, lineIn}
+use Rattle.lines.specs.Line.{Put}
 
 -- a promise of a line: the answer, what the buffer holds after, and that n bytes are within it
 abbrev pub Says : List ℕ → List ℕ → Answer ℕ → List ℕ → ℕ → Type 0

@@ -1,41 +1,11 @@
--- A line in a lent buffer: what putting bytes leaves there, and what each case of an answer says.
+-- A line in a lent buffer: what putting bytes leaves there.
 use Prim.Native.Nat.{ℕ, _+_}
 use mathlib.Core.Path.{_≡_}
-use mathlib.Core.Bool.{cond}
 use mathlib.Core.List.{List}
-use lib.Dec.{leb}
 use lib.ListN.{length}
 use lib.Seq.{sets}
-use Rattle.rows.specs.Answer.{Answer, taken, refused, refusal}
-use Rattle.reading.specs.declared.Counted.{Counted}
-use Rattle.lines.specs.declared.Printed.{Printed}
-use Rattle.lines.specs.declared.Printed.the-variants.{Bytes}
-use Rattle.lines.specs.Text.{countLine, refusalLine}
 
 -- the bytes cs are put into a line from the place at on, and n is the place behind them
 pub record Put (l₀ : List ℕ) (at : ℕ) (cs l : List ℕ) (n : ℕ) : Type 0 where
   pub end : n ≡ at + length cs
   pub bytes : l ≡ sets l₀ at cs
-
--- the room that the longest line may need
-abbrev pub room : ℕ
-room = 768
-
--- a line, in a buffer with room for the longest, or 19 at the room needed
-abbrev pub lineIn : List ℕ → List ℕ → Answer (List ℕ)
-lineIn buffer line = cond (leb room (length buffer)) (taken line) (refused 19 room)
-
--- what each case of `Printed` says
-abbrev pub printedTold : Printed → Answer ℕ
-printedTold (Bytes n) = taken n
-printedTold (Printed.Refused r) = refusal r
-
--- how many bytes were put
-abbrev pub bytesOf : Printed → ℕ
-bytesOf (Bytes n) = n
-bytesOf (Printed.Refused r) = 0
-
--- the last line: the count, or the refusal
-abbrev pub closing : Counted → List ℕ
-closing (Counted.Blocks n) = countLine n
-closing (Counted.Refused r) = refusalLine (r .number) (r .place)

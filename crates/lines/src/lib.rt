@@ -5,7 +5,7 @@ ghost use lib.ListN.{length};
 ghost use Rattle.punching.specs.Answers.{written, after};
 ghost use Rattle.lines.specs.declared.Printed.{Printed};
 ghost use Rattle.lines.specs.Text.{blockLine};
-ghost use Rattle.lines.specs.Line.{lineIn, printedTold, bytesOf, closing};
+ghost use Rattle.lines.specs.Answers.{lineIn, printedTold, bytesOf, closing};
 
 pub mod input;
 mod text;

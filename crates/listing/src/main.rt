@@ -4,7 +4,7 @@ ghost use mathlib.Core.Path.{_≡_};
 ghost use Prim.Native.Nat.{_+_, _≤_};
 ghost use lib.ListN.{length};
 ghost use Rattle.shorthand.specs.Facts.{Facts};
-ghost use Rattle.lines.specs.Line.{bytesOf};
+ghost use Rattle.lines.specs.Answers.{bytesOf};
 use libc::STDIN_FILENO;
 use libc::STDOUT_FILENO;
 use lines::Printed;
