@@ -2,7 +2,7 @@
 use Prim.Native.Nat.{ℕ, zero, suc, _+_, _-_, _/_, _%_}
 use Prim.Native.Char.{code}
 use Prim.Native.String.{String, [] as end, _∷_ as _then_}
-use mathlib.Core.Bool.{cond}
+use mathlib.Core.Bool.{Bool, cond}
 use mathlib.Core.List.{List, [], _∷_, _++_}
 use lib.Dec.{ltb}
 use lib.IntN.{natAbs}
@@ -48,12 +48,12 @@ wordsText [] = []
 wordsText (w ∷ ws) = wordText w ++ wordsText ws
 
 -- N or ":", the sequence number at its full n digits, "/" or "-"
-abbrev pub startText : ℕ → Block → List ℕ
-startText n b = (cond (b .alignment) 58 78 ∷ 32 ∷ []) ++ (full n (b .sequence) ++ (32 ∷ cond (b .skip) 47 45 ∷ []))
+abbrev pub startText : ℕ → Bool → Bool → ℕ → List ℕ
+startText n skip alignment v = (cond alignment 58 78 ∷ 32 ∷ []) ++ (full n v ++ (32 ∷ cond skip 47 45 ∷ []))
 
 -- the line of a block under a shorthand whose N item has n digits
 abbrev pub blockLine : ℕ → Block → List ℕ
-blockLine n b = startText n b ++ (wordsText (wordsOf b) ++ (10 ∷ []))
+blockLine n b = startText n (b .skip) (b .alignment) (b .sequence) ++ (wordsText (wordsOf b) ++ (10 ∷ []))
 
 -- the last line counts the blocks
 abbrev pub countLine : ℕ → List ℕ

@@ -53,7 +53,7 @@ pub fn block_line(digits: u8, block: Block, buffer: &mut [u8]) -> Printed
     if buffer.len() < ROOM {
         return no_room();
     }
-    let start = put_start(buffer, digits, block);
+    let start = put_start(buffer, digits, block.skip, block.alignment, block.sequence);
     let end = put_words(buffer, start, block);
     Printed::Bytes(put(buffer, end, 10))
 }

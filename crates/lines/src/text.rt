@@ -149,16 +149,16 @@ fn either(first: bool, a: u8, b: u8) -> u8
 }
 
 // N or ":", the sequence number, and "/" or "-".
-pub fn put_start(line: &mut [u8], digits: u8, block: Block) -> usize
+pub fn put_start(line: &mut [u8], digits: u8, skip: bool, alignment: bool, sequence: u64) -> usize
     requires { ⌜ 259 ≤ length (now line) ⌝ }
-    ensures put { λ r. ⌜ Put (now (line .entry)) 0 (startText digits block) (now (line .exit)) r ⌝ }
+    ensures put { λ r. ⌜ Put (now (line .entry)) 0 (startText digits skip alignment sequence) (now (line .exit)) r ⌝ }
     ensures end { λ r. ⌜ r ≤ 259 ⌝ }
 {
-    let at = put(line, 0, either(block.alignment, 58, 78));
+    let at = put(line, 0, either(alignment, 58, 78));
     let number = put(line, at, 32);
-    let next = put_full(line, number, digits, block.sequence);
+    let next = put_full(line, number, digits, sequence);
     let mark = put(line, next, 32);
-    put(line, mark, either(block.skip, 47, 45))
+    put(line, mark, either(skip, 47, 45))
 }
 
 // The count of the blocks, or the refusal.

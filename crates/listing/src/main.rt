@@ -11,7 +11,6 @@ use lines::Printed;
 use lines::ROOM;
 use lines::input::count_listed;
 use lines::input::read_header;
-use reading::Block;
 use reading::Counted;
 use reading::EndRead;
 use reading::blocks::gather_block;
@@ -49,15 +48,6 @@ fn behind(at: usize, line: Printed, room: usize) -> usize
     }
 }
 
-fn add_block(digits: u8, block: Block, out: &mut [u8], at: usize) -> usize
-    requires { ⌜ at ≤ length (now out) ⌝ }
-    ensures { λ r. ⌜ r ≤ length (now (out .entry)) ⌝ }
-{
-    let room = out.len();
-    let line = lines::block_line(digits, block, &mut out[at..]);
-    behind(at, line, room)
-}
-
 fn add_last(count: Counted, out: &mut [u8], at: usize) -> usize
     requires { ⌜ at ≤ length (now out) ⌝ }
     ensures { λ r. ⌜ r ≤ length (now (out .entry)) ⌝ }
@@ -82,13 +72,13 @@ fn list_blocks(tape: &[u8], format: Format, count: usize, out: &mut [u8]) -> usi
         i += 1;
         let read = gather_block(tape, format, front);
         let end = read.end;
-        let block = read.block;
         let EndRead::At(_, next) = end else {
             return at;
         };
         front = next;
         at = make_room(out, at);
-        at = add_block(format.sequence, block, out, at);
+        let line = lines::block_line(format.sequence, read.block, &mut out[at..]);
+        at = behind(at, line, out.len());
     }
     at
 }

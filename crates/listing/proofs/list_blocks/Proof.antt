@@ -1,9 +1,9 @@
 -- `listing::list_blocks` is safe and ends: no more waits than the buffer holds.
 use borrow.Author.Needs.{needs}
-use native.Mathlib.Omega.{arith}
-use mathlib.Core.Path.{_≡_}
-use lib.ListN.{length}
 use Prim.Native.Nat.{_-_, _≤_}
+use mathlib.Core.Path.{_≡_}
+use native.Mathlib.Omega.{arith}
+use lib.ListN.{length}
 use Rattle.listing.proofs.list_blocks.Statement.{statement}
 use Rattle.listing.proofs.list_blocks.Tie as tie
 
@@ -52,8 +52,20 @@ returns-2 c = search needs
 make-room-requires : tie.Need-make-room-requires Inv-loop μ-loop
 make-room-requires c κs = search needs
 
-add-block-requires : tie.Need-add-block-requires Inv-loop μ-loop
-add-block-requires c κs = search needs
+sub-block-line : tie.Need-sub-block-line Inv-loop μ-loop
+sub-block-line c = search needs
+
+part-block-line-start : tie.Need-part-block-line-start Inv-loop μ-loop
+part-block-line-start c = search needs
+
+part-block-line-end : tie.Need-part-block-line-end Inv-loop μ-loop
+part-block-line-end c = search needs
+
+block-line-requires : tie.Need-block-line-requires Inv-loop μ-loop
+block-line-requires c κs = search needs
+
+behind-requires : tie.Need-behind-requires Inv-loop μ-loop
+behind-requires c κs = search needs
 
 loop-less : tie.Need-loop-less Inv-loop μ-loop
 loop-less c = search needs
@@ -86,7 +98,11 @@ list-blocks-spec =
     same-length
     returns-2
     make-room-requires
-    add-block-requires
+    sub-block-line
+    part-block-line-start
+    part-block-line-end
+    block-line-requires
+    behind-requires
     loop-less
     loop-again
     same-length-2
