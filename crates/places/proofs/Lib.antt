@@ -1,0 +1,1 @@
+-- The theorems on refusal places, each file named for its subject.

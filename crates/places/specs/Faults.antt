@@ -1,0 +1,106 @@
+-- What a refusal of the fourth stage says, by its number and place, of the rows (document 01, "Refusal numbers" and its paragraph on order).
+use Prim.Native.Nat.{ℕ, _≤_, _<_}
+use mathlib.Core.Path.{_≡_}
+use mathlib.Core.Logic.{_⊎_}
+use mathlib.Core.Bool.{Bool, cond}
+use mathlib.Core.List.{List, [], _∷_, _++_, List·Memᴰ}
+use lib.ListN.{length}
+use lib.IntN.{ℤ}
+use lib.Dec.{T}
+use Rattle.rows.specs.Kept.{KeptRow}
+use Rattle.rows.specs.Passes.{Every}
+use Rattle.speeds.specs.Meaning.{secondZero}
+use Rattle.shorthand.specs.declared.Kind.{Kind}
+use Rattle.shorthand.specs.declared.Item.{Item}
+use Rattle.shorthand.specs.declared.Format.{Format}
+use Rattle.shorthand.specs.Layout.{Sign, barred, required, signOf, width, itemsOf}
+use Rattle.reading.specs.declared.Block.{Block}
+use Rattle.reading.specs.Relation.{digits, Signed, End, skipRows, Program, chars}
+use Rattle.reading.specs.Figures.{fewest}
+use Rattle.reading.specs.Parse.{missingOf}
+use Rattle.places.specs.Begins.{Digit, Begins, Closes, Due}
+
+-- ---- one row that does not fit
+
+-- N or ":" with these digits, "/" before it or not
+abbrev pub numberRows : Bool → Bool → List ℕ → List ℕ
+numberRows skip alignment ds = skipRows skip ++ (cond alignment 58 78 ∷ ds)
+
+-- none of the characters that a block may begin with; behind "/" neither N nor ":"
+abbrev pub NoStart : Bool → ℕ → Type 0
+NoStart skip c = (c ≡ 78 → ⊥) × (c ≡ 58 → ⊥) × (c ≡ 47 → skip ≡ Bool.true)
+
+-- too few digits and another row, or as many as may stand and one more
+pub data Miscounted (least most : ℕ) (ds : List ℕ) (c : ℕ) : Type 0 where
+  too-few : length ds < least → (Digit c → ⊥) → Miscounted least most ds c
+  too-many : length ds ≡ most → Digit c → Miscounted least most ds c
+
+abbrev pub SignRow : ℕ → Type 0
+SignRow c = (c ≡ 43) ⊎ (c ≡ 45)
+
+-- right after an address: a sign that the item bars, or none where one must stand
+pub data SignFault : Sign → ℕ → Type 0 where
+  barred-sign : {c : ℕ} → SignRow c → SignFault barred c
+  missing-sign : {c : ℕ} → (SignRow c → ⊥) → SignFault required c
+
+-- where an end could stand: behind "%" (8), or where it would close a block (10)
+pub data EndDue (f : Format) : ℕ → List ℕ → Type 0 where
+  of-head : EndDue f 8 (37 ∷ [])
+  of-block : {x : List ℕ} → Closes f x → EndDue f 10 x
+
+-- why the character c does not fit behind the rows x, by the refusal's number
+pub data Misfit (f : Format) : ℕ → List ℕ → ℕ → Type 0 where
+  percent : {c : ℕ} → (c ≡ 37 → ⊥) → Misfit f 8 [] c
+  end : {n c : ℕ} {x : List ℕ} → EndDue f n x → (c ≡ 10 → ⊥) → (c ≡ 13 → ⊥) → Misfit f n x c
+  start : {c : ℕ} {bs : List Block} {h : List ℕ} (skip : Bool) → Program f bs h → NoStart skip c → Misfit f 9 (h ++ skipRows skip) c
+  number : {c : ℕ} {bs : List Block} {h ds : List ℕ} (skip alignment : Bool) → Program f bs h → Every Digit ds → Miscounted (f .sequence) (f .sequence) ds c
+      → Misfit f 9 (h ++ numberRows skip alignment ds) c
+  figures : {c m : ℕ} {z : ℤ} {s ds : List ℕ} (it : Item) (x : List ℕ) → List·Memᴰ it (itemsOf f) → Due f it x → Signed m (signOf (it .kind)) z s → Every Digit ds
+      → Miscounted (fewest (missingOf (it .kind)) (width (it .kind))) (width (it .kind)) ds c → Misfit f 11 (x ++ (it .letter ∷ (s ++ ds))) c
+  sign : {c : ℕ} (it : Item) (x : List ℕ) → List·Memᴰ it (itemsOf f) → Due f it x → SignFault (signOf (it .kind)) c → Misfit f 12 (x ++ (it .letter ∷ [])) c
+
+-- ---- a tape that ends too soon
+
+-- within "%" and an end (8); or behind a program's rows within a block, so that they are no program's (14)
+pub data Cut (f : Format) : ℕ → List ℕ → Type 0 where
+  in-head : {x e : List ℕ} (more : List ℕ) → End e → x ++ more ≡ 37 ∷ e → 0 < length more → Cut f 8 x
+  in-block : {bs : List Block} {h : List ℕ} (s : List ℕ) → Program f bs h → 0 < length s → ((cs : List Block) → Program f cs (h ++ s) → ⊥) → Cut f 14 (h ++ s)
+
+-- ---- speeds
+
+-- a word of a speed item with k digits could stand behind x
+pub record SpeedDue (f : Format) (it : Item) (k : ℕ) (x : List ℕ) : Type 0 where
+  pub item : List·Memᴰ it (itemsOf f)
+  pub speed : it .kind ≡ Kind.Speed k
+  pub due : Due f it x
+
+-- the second digit is zero and not all are, so that no further digits make a speed
+pub record Spoilt (ds : List ℕ) : Type 0 where
+  pub first : ℕ
+  pub others : List ℕ
+  pub second : ds ≡ first ∷ 48 ∷ others
+  pub some : Every (λ c. c ≡ 48) ds → ⊥
+
+-- ---- the refusals
+
+pub data Refusal (f : Format) (len : ℕ) (rs : List KeptRow) : ℕ → ℕ → Type 0 where
+  -- 8, 9, 10, 11, 12 at the first wrong row: the rows before it begin a program's, and with it no more
+  at-row : {n : ℕ} (b a : List KeptRow) (r : KeptRow) → rs ≡ b ++ (r ∷ a) → Misfit f n (chars b) (r .char) → Begins f (chars b) → (Begins f (chars b ++ (r .char ∷ [])) → ⊥)
+      → Refusal f len rs n (r .place)
+  -- 8, 10 at a CR's own row: with it the rows begin a program's, and with the row behind it no more
+  at-cr : {n : ℕ} (b a : List KeptRow) (cr r : KeptRow) → rs ≡ b ++ (cr ∷ (r ∷ a)) → EndDue f n (chars b) → cr .char ≡ 13 → (r .char ≡ 10 → ⊥)
+      → Begins f (chars b ++ (13 ∷ [])) → (Begins f (chars b ++ (13 ∷ (r .char ∷ []))) → ⊥) → Refusal f len rs n (cr .place)
+  -- 13 at the address: the rows before it begin a program's, and up to the word's last digit no more
+  at-address : {k : ℕ} {it : Item} (c : ℕ) (b w a : List KeptRow) (r : KeptRow) → rs ≡ b ++ (r ∷ (w ++ a)) → SpeedDue f it k (chars b) → r .char ≡ it .letter → chars w ≡ digits k c
+      → T (secondZero k c) → Begins f (chars b) → (Begins f (chars b ++ chars (r ∷ w)) → ⊥) → Refusal f len rs 13 (r .place)
+  -- 8, 14 at the length: all rows begin a program's
+  at-length : {n : ℕ} → Cut f n (chars rs) → Begins f (chars rs) → Refusal f len rs n len
+  -- 11 before 13: the digits ds before the wrong row are past saving; other digits in their place begin a program's rows, and with the wrong row none do
+  past-saving : {k : ℕ} {it : Item} (b ds a : List KeptRow) (l r : KeptRow) → rs ≡ b ++ (l ∷ (ds ++ (r ∷ a))) → SpeedDue f it k (chars b) → l .char ≡ it .letter
+      → Spoilt (chars ds) → Misfit f 11 (chars b ++ (it .letter ∷ chars ds)) (r .char)
+      → ((o : List ℕ) × Every Digit o × (length o ≡ length ds) × Begins f (chars b ++ (it .letter ∷ o)))
+      → ((o : List ℕ) → Every Digit o → length o ≡ length ds → Begins f (chars b ++ (it .letter ∷ (o ++ (r .char ∷ [])))) → ⊥) → Refusal f len rs 11 (r .place)
+  -- the same where the tape ends before there are enough digits
+  cut-past-saving : {k : ℕ} {it : Item} (b ds : List KeptRow) (l : KeptRow) → rs ≡ b ++ (l ∷ ds) → SpeedDue f it k (chars b) → l .char ≡ it .letter → Spoilt (chars ds)
+      → Every Digit (chars ds) → length ds < k → Cut f 14 (chars rs) → ((o : List ℕ) × Every Digit o × (length o ≡ length ds) × Begins f (chars b ++ (it .letter ∷ o)))
+      → Refusal f len rs 14 len
