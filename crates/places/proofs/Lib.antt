@@ -1,1 +1,2 @@
 -- The theorems on refusal places, each file named for its subject.
+pub mod Steady
