@@ -1,2 +1,4 @@
 -- The theorems on refusal places, each file named for its subject.
 pub mod Steady
+pub mod DigitLists
+pub mod FigureStops
