@@ -2,3 +2,4 @@
 pub mod Steady
 pub mod DigitLists
 pub mod FigureStops
+pub mod SpeedDigits
