@@ -76,11 +76,11 @@ run-is (suc n) v k (d ∷ ds) rest all few why =
     shorter (inr e) = inr e
 
 -- the run of the digits ds
-abbrev ranOf : List KeptRow → List KeptRow → Run
+abbrev pub ranOf : List KeptRow → List KeptRow → Run
 ranOf ds rest = record { number = worth 0 (chars ds); count = length ds; rest = rest }
 
 -- whether as many digits as ds are enough before rest
-abbrev suits : Missing → ℕ → List KeptRow → List KeptRow → Bool
+abbrev pub suits : Missing → ℕ → List KeptRow → List KeptRow → Bool
 suits z n ds rest = leb (fewest z n) (length ds) && not (digitNext rest)
 
 restored-any : (z : Missing) (n : ℕ) (ds x y : List KeptRow) → restored z n (ranOf ds x) ≡ restored z n (ranOf ds y)
@@ -106,7 +106,7 @@ pub data FigureStop (x : ℕ) (z : Missing) (n : ℕ) : ℕ → List ℕ → Lis
   cut : {ds : List ℕ} → Every Digit ds → length ds < fewest z n → FigureStop x z n 14 [] ds []
 
 module _ (len x : ℕ) (z : Missing) (n : ℕ) where
-  figures-are : (ds rest : List KeptRow) → Every Digit (chars ds) → length ds ≤ n → (length ds ≡ n) ⊎ (digitNext rest ≡ false)
+  pub figures-are : (ds rest : List KeptRow) → Every Digit (chars ds) → length ds ≤ n → (length ds ≡ n) ⊎ (digitNext rest ≡ false)
       → figures len x z n (ds ++ rest) ≡ cond (suits z n ds rest) (taking (restored z n (ranOf ds rest)) rest) (wrong len 14 x rest)
   unfolding figures
   figures-are ds rest all few why = rw (run-is n 0 0 ds rest all few why, zero-add)

@@ -3,3 +3,5 @@ pub mod Steady
 pub mod DigitLists
 pub mod FigureStops
 pub mod SpeedDigits
+pub mod SignStops
+pub mod WordStops

@@ -41,7 +41,7 @@ abbrev pub Refuses : {A : Type 0} → Answer A → Type 0
 Refuses (taken a) = ⊥
 Refuses (refused n p) = Unit {0}
 
-refuses-bind : {A B : Type 0} (x : Answer A) (f : A → Answer B) → Refuses x → Refuses (x >>= f)
+pub refuses-bind : {A B : Type 0} (x : Answer A) (f : A → Answer B) → Refuses x → Refuses (x >>= f)
 refuses-bind (taken a) f h = absurd h
 refuses-bind (refused n p) f h = tt
 
