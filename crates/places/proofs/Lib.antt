@@ -5,3 +5,5 @@ pub mod FigureStops
 pub mod SpeedDigits
 pub mod SignStops
 pub mod WordStops
+pub mod WordsStops
+pub mod BlockStops
