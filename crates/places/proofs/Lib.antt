@@ -7,3 +7,4 @@ pub mod SignStops
 pub mod WordStops
 pub mod WordsStops
 pub mod BlockStops
+pub mod ProgramStops
