@@ -8,3 +8,4 @@ pub mod WordStops
 pub mod WordsStops
 pub mod BlockStops
 pub mod ProgramStops
+pub mod Ahead
