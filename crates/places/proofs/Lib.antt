@@ -9,3 +9,4 @@ pub mod WordsStops
 pub mod BlockStops
 pub mod ProgramStops
 pub mod Ahead
+pub mod Told
