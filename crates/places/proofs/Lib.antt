@@ -10,3 +10,4 @@ pub mod BlockStops
 pub mod ProgramStops
 pub mod Ahead
 pub mod Told
+pub mod RefusedRows

@@ -1,0 +1,181 @@
+-- The theorem: of every tape that the fourth stage refuses, the number and the place say what `Refusal` says of the rows.
+use Prim.Native.Nat.{ℕ, _≤_, _<_}
+use mathlib.Core.Path.{_≡_, refl, sym, ap, _∙_, subst}
+use mathlib.Core.List.{List, [], _∷_, _++_, append-nil, append-assoc, map}
+use native.Mathlib.Omega.{arith}
+use lib.ListN.{length, length-map, length-replicate}
+use lib.Dec.{T}
+use Rattle.rows.specs.Answer.{Answer, taken, refused}
+use Rattle.rows.specs.Kept.{KeptRow}
+use Rattle.rows.specs.Passes.{Every}
+use Rattle.speeds.specs.Meaning.{secondZero}
+use Rattle.shorthand.specs.declared.Item.{Item}
+use Rattle.shorthand.specs.declared.Format.{Format}
+use Rattle.shorthand.specs.Facts.{Facts}
+use Rattle.reading.specs.declared.Block.{Block}
+use Rattle.reading.specs.Relation.{digits, zeros, Program, chars}
+use Rattle.reading.specs.Answers.{programAt}
+use Rattle.reading.proofs.Complete.{complete}
+use Rattle.reading.proofs.Outcomes.{chars-append}
+use Rattle.places.specs.Begins.{Digit, Begins}
+use Rattle.places.specs.Faults.{EndDue, Misfit, SpeedDue, Spoilt, Refusal, at-cr, at-address, at-length, past-saving, cut-past-saving}
+use Rattle.places.proofs.Steady.{Refuses, Held, at-row, at-end}
+use Rattle.places.proofs.DigitLists.{zeros-digit}
+use Rattle.places.proofs.ProgramStops.{ProgramStop, program-held}
+use Rattle.places.proofs.Ahead.{zeros-begin}
+use Rattle.places.proofs.Told.{Short, Told, misfit, no-lf-behind, code, short, spoilt, spoilt-short, short-cut, item-widths, program-told}
+
+-- ---- rows with given characters
+
+-- rows of a list of characters, their places of no account
+abbrev rowsOf : List ℕ → List KeptRow
+rowsOf cs = map (λ c. record { place = 0; char = c }) cs
+
+chars-of : (cs : List ℕ) → chars (rowsOf cs) ≡ cs
+chars-of [] = refl
+chars-of (c ∷ cs) = ap (λ l. c ∷ l) (chars-of cs)
+
+no-rows : (rs : List KeptRow) → chars rs ≡ [] → rs ≡ []
+no-rows [] e = refl
+no-rows (r ∷ rs) e = let z = ap length e in absurd (omega arith)
+
+-- the rows of the one part and of the other
+record Parted (rs : List KeptRow) (x y : List ℕ) : Type 0 where
+  left : List KeptRow
+  right : List KeptRow
+  split : rs ≡ left ++ right
+  of-left : chars left ≡ x
+  of-right : chars right ≡ y
+
+parted : (rs : List KeptRow) (x y : List ℕ) → chars rs ≡ x ++ y → Parted rs x y
+parted rs [] y e = record { left = []; right = rs; split = refl; of-left = refl; of-right = e }
+parted [] (c ∷ x) y e = let z = ap length e in absurd (omega arith)
+parted (r ∷ rs) (c ∷ x) y e =
+    let a : r .char ≡ c = cc in
+    let b : chars rs ≡ x ++ y = cc in
+    let p = parted rs x y b in
+    record { left = r ∷ p .left; right = p .right; split = ap (λ l. r ∷ l) (p .split); of-left = rw (a, p .of-left); of-right = p .of-right }
+
+-- ---- rows that are refused whatever follows begin no program's rows
+
+module _ (f : Format) (facts : Facts f) (len : ℕ) where
+  never : (u : List KeptRow) → ((l : List KeptRow) → Refuses (programAt len f (u ++ l))) → Begins f (chars u) → ⊥
+  never u nay (bs, o, p) =
+      let c = complete f facts bs len (u ++ rowsOf o) (rw (chars-append u (rowsOf o), chars-of o) p) in
+      subst Refuses (c .1) (nay (rowsOf o))
+
+  -- the same for characters
+  never-chars : (x : List ℕ) (u : List KeptRow) → chars u ≡ x → ((l : List KeptRow) → Refuses (programAt len f (u ++ l))) → Begins f x → ⊥
+  never-chars x u e nay b = never u nay (subst (Begins f) (sym e) b)
+
+-- the row of one character
+one-row : (w : List KeptRow) (c : ℕ) → chars w ≡ c ∷ [] → (s : KeptRow) × (w ≡ s ∷ []) × (s .char ≡ c)
+one-row [] c e = let z = ap length e in absurd (omega arith)
+one-row (s ∷ w) c e =
+    let k : s .char ≡ c = cc in
+    let n : chars w ≡ [] = cc in
+    (s, ap (λ l. s ∷ l) (no-rows w n), k)
+
+-- ---- refused at a row
+
+module _ (f : Format) (facts : Facts f) (len : ℕ) (rs b es w a : List KeptRow) (r : KeptRow) (split : rs ≡ b ++ (es ++ (r ∷ (w ++ a)))) (all : Every Digit (chars es))
+    (nay : (os l : List KeptRow) → Every Digit (chars os) → length os ≡ length es → Refuses (programAt len f (b ++ (os ++ (r ∷ (w ++ l)))))) where
+  -- with these digits, or others in their place
+  unsaved : (os : List KeptRow) → Every Digit (chars os) → length os ≡ length es → (x : List ℕ) → x ≡ chars b ++ (chars os ++ (r .char ∷ chars w)) → Begins f x → ⊥
+  unsaved os h k x e =
+      let u = b ++ (os ++ (r ∷ w)) in
+      let c : chars u ≡ x = chars-append b (os ++ (r ∷ w)) ∙ ap (λ l. chars b ++ l) (chars-append os (r ∷ w)) ∙ sym e in
+      let to : (l : List KeptRow) → u ++ l ≡ b ++ (os ++ (r ∷ (w ++ l))) = λ l. simp append-assoc in
+      never-chars f facts len x u c (λ l. subst (λ y. Refuses (programAt len f y)) (sym (to l)) (nay os l h k))
+
+  misfit-refused : (n c : ℕ) (x : List ℕ) → chars b ++ chars es ≡ x → r .char ≡ c → chars w ≡ [] → Misfit f n x c → Begins f x → Refusal f len rs n (r .place)
+  misfit-refused n c x e k l m begins =
+      let before : x ≡ chars (b ++ es) = sym e ∙ sym (chars-append b es) in
+      let whole : rs ≡ b ++ es ++ (r ∷ a) = split ∙ rw (no-rows w l) (sym (append-assoc b es (r ∷ a))) in
+      let up-to : chars (b ++ es) ++ (r .char ∷ []) ≡ chars b ++ (chars es ++ (r .char ∷ chars w)) = rw (chars-append b es, l) (append-assoc (chars b) (chars es) (r .char ∷ [])) in
+      Refusal.at-row (b ++ es) a r whole (subst (λ d. Misfit f n (chars (b ++ es)) d) (sym k) (subst (λ y. Misfit f n y c) before m)) (subst (Begins f) before begins)
+      (unsaved es all refl _ up-to)
+
+  cr-refused : (n c : ℕ) → chars es ≡ [] → r .char ≡ 13 → chars w ≡ c ∷ [] → EndDue f n (chars b) → (c ≡ 10 → ⊥) → Begins f (chars b ++ (13 ∷ [])) → Refusal f len rs n (r .place)
+  cr-refused n c none k l due nlf begins =
+      let s = one-row w c l in
+      let whole : rs ≡ b ++ (r ∷ (s .0 ∷ a)) = split ∙ ap (λ d. b ++ (d ++ (r ∷ (w ++ a)))) (no-rows es none) ∙ ap (λ v. b ++ (r ∷ (v ++ a))) (s .1) in
+      let up-to : chars b ++ (13 ∷ (s .0 .char ∷ [])) ≡ chars b ++ (chars es ++ (r .char ∷ chars w)) = rw (none, k, l, s .2) in
+      at-cr b a r (s .0) whole due k (λ e. nlf (sym (s .2) ∙ e)) begins (unsaved es all refl _ up-to)
+
+  code-refused : (k c : ℕ) (it : Item) → chars es ≡ [] → r .char ≡ it .letter → chars w ≡ digits k c → SpeedDue f it k (chars b) → T (secondZero k c) → Begins f (chars b) → Refusal f len rs 13 (r .place)
+  code-refused k c it none l v due z begins =
+      let whole : rs ≡ b ++ (r ∷ (w ++ a)) = split ∙ ap (λ d. b ++ (d ++ (r ∷ (w ++ a)))) (no-rows es none) in
+      let up-to : chars b ++ chars (r ∷ w) ≡ chars b ++ (chars es ++ (r .char ∷ chars w)) = rw none in
+      at-address c b w a r whole due l v z begins (unsaved es all refl _ up-to)
+
+  spoilt-refused : (k c : ℕ) (it : Item) (x : List ℕ) → chars b ≡ x ++ (it .letter ∷ []) → r .char ≡ c → chars w ≡ [] → SpeedDue f it k x → Spoilt (chars es) → length (chars es) ≤ k
+      → Misfit f 11 (x ++ (it .letter ∷ chars es)) c → Refusal f len rs 11 (r .place)
+  spoilt-refused k c it x e v l due s few m =
+      let p = parted b x (it .letter ∷ []) e in
+      let q = one-row (p .right) (it .letter) (p .of-right) in
+      let whole : rs ≡ p .left ++ (q .0 ∷ (es ++ (r ∷ a))) =
+        split ∙ ap (λ v. b ++ (es ++ (r ∷ (v ++ a)))) (no-rows w l) ∙ ap (λ v. v ++ (es ++ (r ∷ a))) (p .split ∙ ap (λ v. p .left ++ v) (q .1))
+        ∙ append-assoc (p .left) (q .0 ∷ []) (es ++ (r ∷ a)) in
+      let up-to : (o : List ℕ) → chars (p .left) ++ (it .letter ∷ (o ++ (r .char ∷ []))) ≡ chars b ++ (chars (rowsOf o) ++ (r .char ∷ chars w)) =
+        λ o. rw (p .of-left, e, l, chars-of o) (sym (append-assoc x (it .letter ∷ []) (o ++ (r .char ∷ [])))) in
+      let n = length-map es (λ s. s .char) in
+      past-saving (p .left) es a (q .0) r whole (subst (λ y. SpeedDue f it k y) (sym (p .of-left)) due) (q .2) s
+      (subst (λ y. Misfit f 11 (y ++ (it .letter ∷ chars es)) (r .char)) (sym (p .of-left)) (subst (λ d. Misfit f 11 (x ++ (it .letter ∷ chars es)) d) (sym v) m))
+      (zeros (length es), zeros-digit (length es), length-replicate (length es) 48, rw (p .of-left) (zeros-begin it (item-widths (facts .fair) (due .item)) x (due .due) (due .speed) (length es) (omega arith)))
+      (λ o h j. unsaved (rowsOf o) (rw (chars-of o) h) (length-map o (λ c. record { place = 0; char = c }) ∙ j) _ (up-to o))
+
+  row-refused : {n : ℕ} {x ds v : List ℕ} → Told f n x ds v → chars b ≡ x → chars es ≡ ds → r .char ∷ chars w ≡ v → Refusal f len rs n (r .place)
+  row-refused (misfit {n = n} {c = c} {x = y} e m begins) eb ed ev =
+      let k : r .char ≡ c = cc in
+      let l : chars w ≡ [] = cc in
+      misfit-refused n c y (rw (eb, ed) (sym e)) k l m begins
+  row-refused (no-lf-behind {n} {c} due nlf begins) eb ed ev =
+      let k : r .char ≡ 13 = cc in
+      let l : chars w ≡ c ∷ [] = cc in
+      cr-refused n c ed k l (subst (EndDue f n) (sym eb) due) nlf (subst (λ y. Begins f (y ++ (13 ∷ []))) (sym eb) begins)
+  row-refused (code {k} {it} c due z begins) eb ed ev =
+      let l : r .char ≡ it .letter = cc in
+      let v : chars w ≡ digits k c = cc in
+      code-refused k c it ed l v (subst (λ y. SpeedDue f it k y) (sym eb) due) z (subst (Begins f) (sym eb) begins)
+  row-refused (short e s begins) eb ed ev = let z = ap length ev in absurd (omega arith)
+  row-refused (spoilt {k} {c} {it} {x = y} e due s few m) eb ed ev =
+      let v : r .char ≡ c = cc in
+      let l : chars w ≡ [] = cc in
+      spoilt-refused k c it y (eb ∙ e) v l due (subst Spoilt (sym ed) s) (subst (λ d. length d ≤ k) (sym ed) few) (subst (λ d. Misfit f 11 (y ++ (it .letter ∷ d)) c) (sym ed) m)
+  row-refused (spoilt-short e due s h few c) eb ed ev = let z = ap length ev in absurd (omega arith)
+
+-- ---- refused at the length
+
+module _ (f : Format) (facts : Facts f) (len : ℕ) (rs b es : List KeptRow) (split : rs ≡ b ++ es) (nay : (cs : List Block) → Program f cs (chars rs) → ⊥) where
+  all-rows : chars rs ≡ chars b ++ chars es
+  all-rows = ap chars split ∙ chars-append b es
+
+  end-refused : {n : ℕ} {x ds v : List ℕ} → Told f n x ds v → chars b ≡ x → chars es ≡ ds → v ≡ [] → Refusal f len rs n len
+  end-refused (misfit e m begins) eb ed ev = let z = ap length ev in absurd (omega arith)
+  end-refused (no-lf-behind due nlf begins) eb ed ev = let z = ap length ev in absurd (omega arith)
+  end-refused (code c due z begins) eb ed ev = let z = ap length ev in absurd (omega arith)
+  end-refused (short {n = n} {x = y} e s begins) eb ed ev =
+      let is : y ≡ chars rs = e ∙ sym (all-rows ∙ rw (eb, ed)) in
+      at-length (short-cut (subst (Short f n) is s) nay) (subst (Begins f) is begins)
+  end-refused (spoilt e due s few m) eb ed ev = let z = ap length ev in absurd (omega arith)
+  end-refused (spoilt-short {k} {it} {x = y} {ds = ds} e due s h few c) eb ed ev =
+      let p = parted b y (it .letter ∷ []) (eb ∙ e) in
+      let q = one-row (p .right) (it .letter) (p .of-right) in
+      let whole : rs ≡ p .left ++ (q .0 ∷ es) = split ∙ ap (λ v. v ++ es) (p .split ∙ ap (λ v. p .left ++ v) (q .1)) ∙ append-assoc (p .left) (q .0 ∷ []) es in
+      let is : y ++ (it .letter ∷ ds) ≡ chars rs = sym (all-rows ∙ rw (eb ∙ e, ed) (append-assoc y (it .letter ∷ []) ds)) in
+      let n : length es ≡ length ds = sym (length-map es (λ s. s .char)) ∙ ap length ed in
+      cut-past-saving (p .left) es (q .0) whole (subst (λ y. SpeedDue f it k y) (sym (p .of-left)) due) (q .2) (subst Spoilt (sym ed) s) (subst (Every Digit) (sym ed) h) (omega arith)
+      (short-cut (subst (Short f 14) is c) nay)
+      (zeros (length es), zeros-digit (length es), length-replicate (length es) 48, rw (p .of-left) (zeros-begin it (item-widths (facts .fair) (due .item)) y (due .due) (due .speed) (length es) (omega arith)))
+
+-- ---- the theorem
+
+pub refused-rows : (f : Format) → Facts f → (len : ℕ) (rs : List KeptRow) (n p : ℕ) → programAt len f rs ≡ refused n p → Refusal f len rs n p
+refused-rows f facts len rs n p e = go (program-held f facts len rs n p e)
+  where
+    no-program : (cs : List Block) → Program f cs (chars rs) → ⊥
+    no-program cs q = let c = complete f facts cs len rs q in let z : _≡_ {A = ℕ} 0 1 = cc (c .1) in absurd (omega arith)
+    go : {n p : ℕ} → Held (λ l. Refuses (programAt len f l)) len (ProgramStop f) rs n p → Refusal f len rs n p
+    go (at-row b ds w a r split all is nay) = row-refused f facts len rs b ds w a r split all nay (program-told facts is) refl refl refl
+    go (at-end b ds split all is) = end-refused f facts len rs b ds split no-program (program-told facts is) refl refl refl
