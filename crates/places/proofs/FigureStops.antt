@@ -56,6 +56,7 @@ spread (suc n) (r ∷ rs) = go (isDigit (r .char)) refl (spread n rs)
     longer : {k : ℕ} {b : Bool} → (k ≡ n) ⊎ (b ≡ false) → (suc k ≡ suc n) ⊎ (b ≡ false)
     longer (inl e) = inl (ap suc e)
     longer (inr e) = inr e
+
     go : (b : Bool) → isDigit (r .char) ≡ b → Spread n rs → Spread (suc n) (r ∷ rs)
     go true e s =
         record { ds = r ∷ s .ds; rest = s .rest; split = ap (λ l. r ∷ l) (s .split); all = (digit-is (r .char) e, s .all); few = suc-le-suc (s .few); why = longer (s .why) }

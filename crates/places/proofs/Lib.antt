@@ -11,3 +11,4 @@ pub mod ProgramStops
 pub mod Ahead
 pub mod Told
 pub mod RefusedRows
+pub mod RefusedTapes

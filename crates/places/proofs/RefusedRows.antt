@@ -115,10 +115,10 @@ module _ (f : Format) (facts : Facts f) (len : ℕ) (rs b es w a : List KeptRow)
       let p = parted b x (it .letter ∷ []) e in
       let q = one-row (p .right) (it .letter) (p .of-right) in
       let whole : rs ≡ p .left ++ (q .0 ∷ (es ++ (r ∷ a))) =
-        split ∙ ap (λ v. b ++ (es ++ (r ∷ (v ++ a)))) (no-rows w l) ∙ ap (λ v. v ++ (es ++ (r ∷ a))) (p .split ∙ ap (λ v. p .left ++ v) (q .1))
-        ∙ append-assoc (p .left) (q .0 ∷ []) (es ++ (r ∷ a)) in
+      split ∙ ap (λ v. b ++ (es ++ (r ∷ (v ++ a)))) (no-rows w l) ∙ ap (λ v. v ++ (es ++ (r ∷ a))) (p .split ∙ ap (λ v. p .left ++ v) (q .1))
+      ∙ append-assoc (p .left) (q .0 ∷ []) (es ++ (r ∷ a)) in
       let up-to : (o : List ℕ) → chars (p .left) ++ (it .letter ∷ (o ++ (r .char ∷ []))) ≡ chars b ++ (chars (rowsOf o) ++ (r .char ∷ chars w)) =
-        λ o. rw (p .of-left, e, l, chars-of o) (sym (append-assoc x (it .letter ∷ []) (o ++ (r .char ∷ [])))) in
+      λ o. rw (p .of-left, e, l, chars-of o) (sym (append-assoc x (it .letter ∷ []) (o ++ (r .char ∷ [])))) in
       let n = length-map es (λ s. s .char) in
       past-saving (p .left) es a (q .0) r whole (subst (λ y. SpeedDue f it k y) (sym (p .of-left)) due) (q .2) s
       (subst (λ y. Misfit f 11 (y ++ (it .letter ∷ chars es)) (r .char)) (sym (p .of-left)) (subst (λ d. Misfit f 11 (x ++ (it .letter ∷ chars es)) d) (sym v) m))
@@ -176,6 +176,7 @@ refused-rows f facts len rs n p e = go (program-held f facts len rs n p e)
   where
     no-program : (cs : List Block) → Program f cs (chars rs) → ⊥
     no-program cs q = let c = complete f facts cs len rs q in let z : _≡_ {A = ℕ} 0 1 = cc (c .1) in absurd (omega arith)
+
     go : {n p : ℕ} → Held (λ l. Refuses (programAt len f l)) len (ProgramStop f) rs n p → Refusal f len rs n p
     go (at-row b ds w a r split all is nay) = row-refused f facts len rs b ds w a r split all nay (program-told facts is) refl refl refl
     go (at-end b ds split all is) = end-refused f facts len rs b ds split no-program (program-told facts is) refl refl refl

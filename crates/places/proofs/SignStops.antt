@@ -76,6 +76,7 @@ module _ (len : ℕ) (s : Sign) where
           alone : (es l : List KeptRow) → length es ≡ 0 → Refuses (signed len s (es ++ (r ∷ l)))
           alone [] l k = subst Refuses (sym (e l)) tt
           alone (d ∷ es) l k = absurd (omega arith)
+
       go : (b : Bool) → isSign (r .char) ≡ b → (c : Bool) → mayStand s ≡ c → (d : Bool) → mayMiss s ≡ d
           → Goes (signed len s) len (SignRows s) (SignStop s) (r ∷ rs) (cond b (cond c (taking (eqb (r .char) 45) rs) (refused 12 (r .place))) (cond d (taking false (r ∷ rs)) (refused 12 (r .place))))
       go true e true f d g = took {a = eqb (r .char) 45} (r ∷ []) refl (sign-stands s (r .char) f (sign-is (r .char) e)) (λ l h. rw (e, f))

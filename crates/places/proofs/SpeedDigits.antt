@@ -49,7 +49,7 @@ module _ (k : ℕ) (low : 3 ≤ k) (high : k ≤ 5) where
       let mb : m < 10 ^ suc j = rw (pow-succ' 10 j) (digits-lt (small e q .0) (u .1)) in
       let cb : c < 10 ^ suc (suc j) = rw (pow-succ' 10 (suc j)) (digits-lt (small d p .0) mb) in
       let ds-are : d ∷ e ∷ ds ≡ digits (suc (suc j)) c =
-        rw (digits-front (suc j) (d - 48) m mb, digits-front j (e - 48) (u .0) (u .1), small d p .1, small e q .1) (ap (λ x. d ∷ e ∷ x) (u .2)) in
+      rw (digits-front (suc j) (d - 48) m mb, digits-front j (e - 48) (u .0) (u .1), small d p .1, small e q .1) (ap (λ x. d ∷ e ∷ x) (u .2)) in
       let over : 10 ^ j ≤ m = omega (arith, mul-le-mul-right (10 ^ j) (e-over e q n), one-mul (10 ^ j)) in
       let k-is : k ≡ suc (suc j) = omega arith in
       let others : c % 10 ^ (k - 1) ≡ m = let w : k - 1 ≡ suc j = omega arith in rw w (digits-mod (d - 48) mb) in
@@ -84,10 +84,12 @@ module _ (k : ℕ) (low : 3 ≤ k) (high : k ≤ 5) where
     where
       more : List ℕ
       more = zeros (k - length (d ∷ e ∷ ds))
+
       zeros-go : Every (λ c. c ≡ 48) (d ∷ e ∷ ds) → (d ∷ e ∷ ds) ++ more ≡ zeros k
       zeros-go h =
           let w : length (d ∷ e ∷ ds) + (k - length (d ∷ e ∷ ds)) ≡ k = omega arith in
           ap (λ l. l ++ more) (zeros-are (d ∷ e ∷ ds) h) ∙ replicate-append-replicate (length (d ∷ e ∷ ds)) (k - length (d ∷ e ∷ ds)) 48 ∙ ap zeros w
+
       go : (b : Bool) → eqb e 48 ≡ b → ((more : List ℕ) × Means k low high ((d ∷ e ∷ ds) ++ more)) ⊎ Spoilt (d ∷ e ∷ ds)
       go false n =
           inl (more, second-means k low high d e (ds ++ more) (all .0) (all .1 .0) (eqb-false e 48 n) (every-append ds more (all .1 .1) (zeros-digit (k - length (d ∷ e ∷ ds)))) (simp (length-append, length-replicate) (omega arith)))

@@ -161,6 +161,7 @@ module _ (len : ℕ) (it : Item) (w : Widths (it .kind)) (r : KeptRow) (addresse
         where
           speeds : Widths (Kind.Speed j)
           speeds = subst Widths k w
+
           alone : (es l : List KeptRow) → length es ≡ 0 → Refuses (wordAt len it (es ++ (r ∷ (u ++ l))))
           alone [] l n =
               subst (λ k. Refuses (wordAt len (record { letter = it .letter; kind = k }) (r ∷ (u ++ l)))) (sym k)

@@ -7,13 +7,15 @@ use mathlib.Core.List.{List, [], _∷_, _++_, List·Memᴰ}
 use lib.ListN.{length}
 use lib.IntN.{ℤ}
 use lib.Dec.{T}
-use Rattle.rows.specs.Kept.{KeptRow}
-use Rattle.rows.specs.Passes.{Every}
+use Rattle.rows.specs.Kept.{KeptRow, kept}
+use Rattle.rows.specs.Passes.{Every, Passes}
 use Rattle.speeds.specs.Meaning.{secondZero}
 use Rattle.shorthand.specs.declared.Kind.{Kind}
 use Rattle.shorthand.specs.declared.Item.{Item}
 use Rattle.shorthand.specs.declared.Format.{Format}
 use Rattle.shorthand.specs.Layout.{Sign, barred, required, signOf, width, itemsOf}
+use Rattle.shorthand.specs.Lawful.{Lawful}
+use Rattle.shorthand.specs.Spell.{spell}
 use Rattle.reading.specs.declared.Block.{Block}
 use Rattle.reading.specs.Relation.{digits, Signed, End, skipRows, Program, chars}
 use Rattle.reading.specs.Figures.{fewest}
@@ -104,3 +106,11 @@ pub data Refusal (f : Format) (len : ℕ) (rs : List KeptRow) : ℕ → ℕ → 
   cut-past-saving : {k : ℕ} {it : Item} (b ds : List KeptRow) (l : KeptRow) → rs ≡ b ++ (l ∷ ds) → SpeedDue f it k (chars b) → l .char ≡ it .letter → Spoilt (chars ds)
       → Every Digit (chars ds) → length ds < k → Cut f 14 (chars rs) → ((o : List ℕ) × Every Digit o × (length o ≡ length ds) × Begins f (chars b ++ (it .letter ∷ o)))
       → Refusal f len rs 14 len
+
+-- the tape t passes the first three stages, and under the edition e and the shorthand s the fourth refuses it by n at p
+pub record RefusalOf (e : ℕ) (s t : List ℕ) (n p : ℕ) : Type 0 where
+  pub format : Format
+  pub lawful : Lawful e format
+  pub spelt : s ≡ spell format
+  pub passes : Passes t
+  pub says : Refusal format (length t) (kept t) n p
