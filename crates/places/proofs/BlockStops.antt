@@ -3,6 +3,7 @@ use Prim.Native.Nat.{ℕ, _^_, _<_}
 use mathlib.Core.Path.{_≡_, refl, sym, ap, _∙_, subst}
 use mathlib.Core.Bool.{Bool, true, false, _||_, cond, false≢true}
 use mathlib.Core.List.{List, [], _∷_, _++_, append-nil, append-assoc}
+use native.Mathlib.Nat.{zero-lt-suc}
 use native.Mathlib.Omega.{arith}
 use lib.ListN.{length}
 use lib.Dec.{eqb}
@@ -18,13 +19,14 @@ use Rattle.reading.specs.declared.Word.{Word}
 use Rattle.reading.specs.declared.Block.{Block}
 use Rattle.reading.specs.Record.{blockOf}
 use Rattle.reading.specs.Relation.{digits, Words, End, lf, cr-lf, skipRows, sequenceRows, Blocked, block, chars}
-use Rattle.reading.specs.Figures.{Behind, taking, wrong, fronts, behind, ended, figures}
+use Rattle.reading.specs.Figures.{Behind, taking, wrong, fronts, behind, isDigit, digitNext, ended, figures}
 use Rattle.reading.specs.Parse.{BlockRead, wordsAt, sequenced, blockAt}
-use Rattle.places.specs.Faults.{NoStart}
+use Rattle.places.specs.Begins.{Digit}
+use Rattle.places.specs.Faults.{NoStart, lastOf}
 use Rattle.places.proofs.Steady.{Like, Refuses, Held, at-row, at-end, Goes, took, held, goes-after, goes-if, goes-map, goes-bind}
-use Rattle.places.proofs.DigitLists.{coded}
+use Rattle.places.proofs.DigitLists.{no-digit, coded}
 use Rattle.places.proofs.FigureStops.{fronts-like, Figured, FigureStop, figures-go}
-use Rattle.places.proofs.WordsStops.{SomeWords, WordsStop, words-go}
+use Rattle.places.proofs.WordsStops.{SomeWords, WordsStop, firm-after, words-go}
 
 -- a row that is refused, whatever stands behind it and the rows w
 pub alone : {A : Type 0} (p : List KeptRow → Answer A) (r : KeptRow) (w : List KeptRow) → ((l : List KeptRow) → Refuses (p (r ∷ (w ++ l)))) → (es l : List KeptRow) → length es ≡ 0
@@ -34,25 +36,25 @@ alone p r w f (d ∷ es) l e = absurd (omega arith)
 
 -- ---- an end
 
--- refused by n at a row, by e where the tape ends
-pub data EndStop (e n : ℕ) : ℕ → List ℕ → List ℕ → List ℕ → Type 0 where
-  no-end : {c : ℕ} → (c ≡ 10 → ⊥) → (c ≡ 13 → ⊥) → EndStop e n n [] [] (c ∷ [])
-  no-lf : {c : ℕ} → (c ≡ 10 → ⊥) → EndStop e n n [] [] (13 ∷ c ∷ [])
-  cut-end : EndStop e n e [] [] []
-  cut-lf : EndStop e n e (13 ∷ []) [] []
+-- refused by n at a row, by e where the tape ends; the first row is a digit or not
+pub data EndStop (digit : Bool) (e n : ℕ) : ℕ → List ℕ → List ℕ → List ℕ → Type 0 where
+  no-end : {c : ℕ} → (c ≡ 10 → ⊥) → (c ≡ 13 → ⊥) → (digit ≡ false → Digit c → ⊥) → EndStop digit e n n [] [] (c ∷ [])
+  no-lf : {c : ℕ} → (c ≡ 10 → ⊥) → EndStop digit e n n [] [] (13 ∷ c ∷ [])
+  cut-end : EndStop digit e n e [] [] []
+  cut-lf : EndStop digit e n e (13 ∷ []) [] []
 
 module _ (len e n : ℕ) where
   abbrev Ends : List KeptRow → Answer (Behind ℕ) → Type 0
-  Ends rs x = Goes (ended len e n) len (λ p u. End u) (EndStop e n) rs x
+  Ends rs x = Goes (ended len e n) len (λ p u l. End u) (EndStop (digitNext rs) e n) rs x
 
   cr-goes : (r : KeptRow) → eqb (r .char) 10 ≡ false → eqb (r .char) 13 ≡ true → (rs : List KeptRow) → Ends (r ∷ rs) (ended len e n (r ∷ rs))
-  cr-goes r x y [] = rw (x, y) (held (at-end (r ∷ []) [] refl tt (subst (λ c. EndStop e n e (c ∷ []) [] []) (sym (eqb-true (r .char) 13 y)) cut-lf)))
+  cr-goes r x y [] = rw (x, y) (held (at-end (r ∷ []) [] refl tt (subst (λ c. EndStop (isDigit (r .char)) e n e (c ∷ []) [] []) (sym (eqb-true (r .char) 13 y)) cut-lf)))
   cr-goes r x y (s ∷ rs) = rw (x, y) (go (eqb (s .char) 10) refl)
     where
       go : (b : Bool) → eqb (s .char) 10 ≡ b → Ends (r ∷ s ∷ rs) (cond b (taking (s .place) rs) (refused n (r .place)))
       go true z = took {a = s .place} (r ∷ s ∷ []) refl (rw (eqb-true (r .char) 13 y, eqb-true (s .char) 10 z) cr-lf) (λ l h. rw (x, y, z))
       go false z =
-          held (at-row [] [] (s ∷ []) rs r refl tt (subst (λ c. EndStop e n n [] [] (c ∷ s .char ∷ [])) (sym (eqb-true (r .char) 13 y)) (no-lf (eqb-false (s .char) 10 z)))
+          held (at-row [] [] (s ∷ []) rs r refl tt (subst (λ c. EndStop (isDigit (r .char)) e n n [] [] (c ∷ s .char ∷ [])) (sym (eqb-true (r .char) 13 y)) (no-lf (eqb-false (s .char) 10 z)))
           (λ es l h k. alone (ended len e n) r (s ∷ []) (λ l. rw (x, y, z) tt) es l k))
 
   pub ended-goes : (rs : List KeptRow) → Ends rs (ended len e n rs)
@@ -64,7 +66,7 @@ module _ (len e n : ℕ) where
       go false x true y = cr-goes r x y rs
       go false x false y =
           rw (x, y)
-          (held (at-row [] [] [] rs r refl tt (no-end (eqb-false (r .char) 10 x) (eqb-false (r .char) 13 y)) (λ es l h k. alone (ended len e n) r [] (λ l. rw (x, y) tt) es l k)))
+          (held (at-row [] [] [] rs r refl tt (no-end (eqb-false (r .char) 10 x) (eqb-false (r .char) 13 y) (no-digit (r .char))) (λ es l h k. alone (ended len e n) r [] (λ l. rw (x, y) tt) es l k)))
 
 -- ---- a block
 
@@ -72,12 +74,17 @@ module _ (len e n : ℕ) where
 pub data Opened (f : Format) : List ℕ → Type 0 where
   opened : {n : ℕ} (skip alignment : Bool) → n < 10 ^ f .sequence → Opened f (skipRows skip ++ sequenceRows (f .sequence) alignment n)
 
+pub opened-some : {f : Format} {s : List ℕ} → Opened f s → (r : List ℕ) → 0 < length (s ++ r)
+opened-some (opened true alignment small) r = zero-lt-suc _
+opened-some (opened false alignment small) r = zero-lt-suc _
+
 pub data BlockStop (f : Format) : ℕ → List ℕ → List ℕ → List ℕ → Type 0 where
   no-start : {c : ℕ} (skip : Bool) → NoStart skip c → BlockStop f 9 (skipRows skip) [] (c ∷ [])
   cut-start : (skip : Bool) → BlockStop f 14 (skipRows skip) [] []
-  in-number : {n : ℕ} {b ds w : List ℕ} (skip alignment : Bool) → FigureStop 9 Nothing (f .sequence) n b ds w → BlockStop f n (skipRows skip ++ (cond alignment 58 78 ∷ b)) ds w
+  in-number : {n : ℕ} {b ds w : List ℕ} {sg : Bool} (skip alignment : Bool) → FigureStop sg 9 Nothing (f .sequence) n b ds w → BlockStop f n (skipRows skip ++ (cond alignment 58 78 ∷ b)) ds w
   in-words : {n : ℕ} {b ds w s : List ℕ} → Opened f s → WordsStop (f .dots) (itemsOf f) n b ds w → BlockStop f n (s ++ b) ds w
-  in-end : {n : ℕ} {b ds w s r : List ℕ} → Opened f s → SomeWords (f .dots) (itemsOf f) r → EndStop 14 10 n b ds w → BlockStop f n (s ++ (r ++ b)) ds w
+  in-end : {n : ℕ} {b ds w s r : List ℕ} {digit : Bool} → Opened f s → SomeWords (f .dots) (itemsOf f) r → (Digit (lastOf (s ++ r)) → digit ≡ false) → EndStop digit 14 10 n b ds w
+      → BlockStop f n (s ++ (r ++ b)) ds w
 
 abbrev pub SomeBlock : Format → List ℕ → Type 0
 SomeBlock f u = (b : Block) × Blocked f b u
@@ -93,30 +100,31 @@ module _ (f : Format) (facts : Facts f) (len : ℕ) (skip : Bool) where
   abbrev fore : Bool → List ℕ → List ℕ
   fore alignment ds = skipRows skip ++ (cond alignment 58 78 ∷ ds)
 
-  opens : (alignment : Bool) (m : ℕ) (ds : List ℕ) → Figured Nothing (f .sequence) m ds → Opened f (fore alignment ds)
+  opens : (alignment : Bool) (m : ℕ) (ds : List ℕ) {rest : List KeptRow} → Figured Nothing (f .sequence) m ds rest → Opened f (fore alignment ds)
   opens alignment m ds h =
       let c = coded (f .sequence) ds (h .all) (omega (arith, h .least, h .most)) in
       subst (λ l. Opened f (fore alignment l)) (sym (c .2)) (opened skip alignment (c .1))
 
-  closed : (alignment : Bool) (m : ℕ) (ds u e : List ℕ) → Figured Nothing (f .sequence) m ds → SomeWords (f .dots) (itemsOf f) u → End e
+  closed : (alignment : Bool) (m : ℕ) (ds u e : List ℕ) {rest : List KeptRow} → Figured Nothing (f .sequence) m ds rest → SomeWords (f .dots) (itemsOf f) u → End e
       → SomeBlock f (skipRows skip ++ (cond alignment 58 78 ∷ (ds ++ (u ++ e))))
   closed alignment m ds u e h ws end =
       let c = coded (f .sequence) ds (h .all) (omega (arith, h .least, h .most)) in
       (blockOf skip alignment (c .0) (ws .0), subst (λ l. Blocked f (blockOf skip alignment (c .0) (ws .0)) (fore alignment (l ++ (u ++ e)))) (sym (c .2)) (block skip alignment (c .1) (ws .1) end))
 
   numbered-goes : (alignment : Bool) (rs : List KeptRow)
-      → Goes (numbered len f skip alignment) len (λ b v. SomeBlock f (fore alignment v)) (λ n b ds w. BlockStop f n (fore alignment b) ds w) rs (numbered len f skip alignment rs)
+      → Goes (numbered len f skip alignment) len (λ b v l. SomeBlock f (fore alignment v)) (λ n b ds w. BlockStop f n (fore alignment b) ds w) rs (numbered len f skip alignment rs)
   numbered-goes alignment rs =
-      goes-bind (goes-map (λ a u h. h) (λ n b ds w h. in-number skip alignment h) (figures-go len 9 Nothing (f .sequence) rs)) λ m ds rest h.
+      goes-bind (goes-map (λ a u l h. h) (λ n b ds w h. in-number skip alignment h) (figures-go len 9 Nothing (f .sequence) rs)) λ m ds rest e h.
       goes-bind
-      (goes-map (λ a u k. k)
+      (goes-map (λ a u l k. k)
       (λ n b es w q. subst (λ x. BlockStop f n x es w) (append-assoc (skipRows skip) (cond alignment 58 78 ∷ chars ds) b) (in-words (opens alignment m (chars ds) h) q))
-      (words-go len (f .dots) (facts .fair) rest)) λ ws u rest₂ k.
+      (words-go len (f .dots) (facts .fair) rest)) λ ws u rest₂ e k.
       goes-bind
-      (goes-map (λ a v z. z)
-      (λ n b es w q. subst (λ x. BlockStop f n x es w) (append-assoc (skipRows skip) (cond alignment 58 78 ∷ chars ds) (chars u ++ b)) (in-end (opens alignment m (chars ds) h) k q))
-      (ended-goes len 14 10 rest₂)) λ p v rest₃ z.
-      took [] refl (rw (append-nil (chars v)) (closed alignment m (chars ds) (chars u) (chars v) h k z)) (λ l e. refl)
+      (goes-map (λ a v l z. z)
+      (λ n b es w q. subst (λ x. BlockStop f n x es w) (append-assoc (skipRows skip) (cond alignment 58 78 ∷ chars ds) (chars u ++ b))
+      (in-end (opens alignment m (chars ds) h) (k .0) (firm-after (fore alignment (chars ds)) u rest rest₂ e (h .apart) (k .1)) q))
+      (ended-goes len 14 10 rest₂)) λ p v rest₃ e z.
+      took [] refl (rw (append-nil (chars v)) (closed alignment m (chars ds) (chars u) (chars v) h (k .0) z)) (λ l e. refl)
 
   mark-is : (c : ℕ) → (eqb c 78 || eqb c 58) ≡ true → c ≡ cond (eqb c 58) 58 78
   mark-is c e = go (eqb c 78) refl (eqb c 58) refl e
@@ -136,7 +144,7 @@ module _ (f : Format) (facts : Facts f) (len : ℕ) (skip : Bool) where
 
   -- from the sequence word on, where "/" stood before it or doesn't stand here
   abbrev Sequences : List KeptRow → Answer (Behind BlockRead) → Type 0
-  Sequences rs x = Goes (sequenced len f skip) len (λ b v. SomeBlock f (skipRows skip ++ v)) (λ n b ds w. BlockStop f n (skipRows skip ++ b) ds w) rs x
+  Sequences rs x = Goes (sequenced len f skip) len (λ b v l. SomeBlock f (skipRows skip ++ v)) (λ n b ds w. BlockStop f n (skipRows skip ++ b) ds w) rs x
 
   sequenced-goes : (rs : List KeptRow) → (fronts 47 rs ≡ true → skip ≡ true) → Sequences rs (sequenced len f skip rs)
   sequenced-goes [] s = held (at-end {n = 14} [] [] refl tt (rw (append-nil (skipRows skip)) (cut-start skip)))
@@ -146,22 +154,22 @@ module _ (f : Format) (facts : Facts f) (len : ℕ) (skip : Bool) where
       go true e =
           let m = mark-is (r .char) e in
           goes-after {o = numbered len f skip (eqb (r .char) 58)} (r ∷ []) refl (λ l h. ap (λ b. cond b (numbered len f skip (eqb (r .char) 58) l) (refused 9 (r .place))) e)
-          (goes-map (λ a v h. subst (λ c. SomeBlock f (skipRows skip ++ (c ∷ v))) (sym m) h) (λ n b ds w h. subst (λ c. BlockStop f n (skipRows skip ++ (c ∷ b)) ds w) (sym m) h)
+          (goes-map (λ a v l h. subst (λ c. SomeBlock f (skipRows skip ++ (c ∷ v))) (sym m) h) (λ n b ds w h. subst (λ c. BlockStop f n (skipRows skip ++ (c ∷ b)) ds w) (sym m) h)
           (numbered-goes (eqb (r .char) 58) rs))
       go false e =
           let n = not-marked (r .char) e in
           held (at-row {n = 9} [] [] [] rs r refl tt (rw (append-nil (skipRows skip)) (no-start skip (n .0, n .1, λ h. s (rw h))))
           (λ es l h k. alone (sequenced len f skip) r [] (λ l. rw e tt) es l k))
 
-pub block-goes : (f : Format) → Facts f → (len : ℕ) (rs : List KeptRow) → Goes (blockAt len f) len (λ b u. SomeBlock f u) (BlockStop f) rs (blockAt len f rs)
+pub block-goes : (f : Format) → Facts f → (len : ℕ) (rs : List KeptRow) → Goes (blockAt len f) len (λ b u l. SomeBlock f u) (BlockStop f) rs (blockAt len f rs)
 unfolding blockAt
 block-goes f facts len rs =
     goes-if (fronts 47) (fronts-like 47 refl) rs (λ e. skipped rs e) (λ e. sequenced-goes f facts len false rs (λ h. absurd (false≢true (sym e ∙ h))))
   where
-    skipped : (rs : List KeptRow) → fronts 47 rs ≡ true → Goes (λ l. sequenced len f true (behind l)) len (λ b u. SomeBlock f u) (BlockStop f) rs (sequenced len f true (behind rs))
+    skipped : (rs : List KeptRow) → fronts 47 rs ≡ true → Goes (λ l. sequenced len f true (behind l)) len (λ b u l. SomeBlock f u) (BlockStop f) rs (sequenced len f true (behind rs))
     skipped [] e = absurd (false≢true e)
     skipped (r ∷ rs) e =
         let m = eqb-true (r .char) 47 e in
         goes-after {o = sequenced len f true} (r ∷ []) refl (λ l h. refl)
-        (goes-map (λ a v h. subst (λ c. SomeBlock f (c ∷ v)) (sym m) h) (λ n b ds w h. subst (λ c. BlockStop f n (c ∷ b) ds w) (sym m) h)
+        (goes-map (λ a v l h. subst (λ c. SomeBlock f (c ∷ v)) (sym m) h) (λ n b ds w h. subst (λ c. BlockStop f n (c ∷ b) ds w) (sym m) h)
         (sequenced-goes f facts len true rs (λ h. refl)))

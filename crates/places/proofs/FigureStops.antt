@@ -15,7 +15,7 @@ use Rattle.rows.specs.Passes.{Every}
 use Rattle.shorthand.specs.declared.Missing.{Missing}
 use Rattle.shorthand.specs.declared.Missing.the-variants.{Nothing, Leading, Trailing}
 use Rattle.reading.specs.Relation.{chars}
-use Rattle.reading.specs.Figures.{Behind, taking, wrong, fronts, isDigit, digitNext, Run, run, restored, fewest, figures}
+use Rattle.reading.specs.Figures.{Behind, taking, wrong, fronts, isDigit, digitNext, isSign, Run, run, restored, fewest, figures}
 use Rattle.reading.proofs.DigitRows.{worth}
 use Rattle.reading.proofs.RowsAhead.{is-digit}
 use Rattle.places.specs.Begins.{Digit}
@@ -91,20 +91,30 @@ restored-any Trailing n ds x y = refl
 
 -- ---- figures
 
--- the digits u are enough for a number of n, and where none may be missing they are the value
-pub record Figured (z : Missing) (n a : ℕ) (u : List ℕ) : Type 0 where
+-- the digits u are enough for a number of n, where none may be missing they are the value, and no further digit stands behind them
+pub record Figured (z : Missing) (n a : ℕ) (u : List ℕ) (rest : List KeptRow) : Type 0 where
   pub all : Every Digit u
   pub least : fewest z n ≤ length u
   pub most : length u ≤ n
   pub value : z ≡ Nothing → a ≡ worth 0 u
+  pub apart : digitNext rest ≡ false
 
 restored-full : (z : Missing) (n : ℕ) (ds rest : List KeptRow) → z ≡ Nothing → restored z n (ranOf ds rest) ≡ worth 0 (chars ds)
 restored-full z n ds rest e = rw e
 
--- refused by x at a row, by 14 at the end
-pub data FigureStop (x : ℕ) (z : Missing) (n : ℕ) : ℕ → List ℕ → List ℕ → List ℕ → Type 0 where
-  miscounted : {ds : List ℕ} {c : ℕ} → Every Digit ds → Miscounted (fewest z n) n ds c → FigureStop x z n x [] ds (c ∷ [])
-  cut : {ds : List ℕ} → Every Digit ds → length ds < fewest z n → FigureStop x z n 14 [] ds []
+-- a sign stands at the front
+abbrev pub signNext : List KeptRow → Bool
+signNext [] = false
+signNext (r ∷ rs) = isSign (r .char)
+
+-- refused by x at a row, by 14 at the end; the first row is a sign or not
+pub data FigureStop (sg : Bool) (x : ℕ) (z : Missing) (n : ℕ) : ℕ → List ℕ → List ℕ → List ℕ → Type 0 where
+  miscounted : {ds : List ℕ} {c : ℕ} → Every Digit ds → Miscounted (fewest z n) n ds c → (ds ≡ [] → isSign c ≡ sg) → FigureStop sg x z n x [] ds (c ∷ [])
+  cut : {ds : List ℕ} → Every Digit ds → length ds < fewest z n → FigureStop sg x z n 14 [] ds []
+
+first-sign : (rs ds a : List KeptRow) (r : KeptRow) → rs ≡ ds ++ (r ∷ a) → chars ds ≡ [] → isSign (r .char) ≡ signNext rs
+first-sign rs [] a r e n = ap signNext (sym e)
+first-sign rs (d ∷ ds) a r e n = let z = ap length n in absurd (omega arith)
 
 module _ (len x : ℕ) (z : Missing) (n : ℕ) where
   pub figures-are : (ds rest : List KeptRow) → Every Digit (chars ds) → length ds ≤ n → (length ds ≡ n) ⊎ (digitNext rest ≡ false)
@@ -124,7 +134,7 @@ module _ (len x : ℕ) (z : Missing) (n : ℕ) where
       go false d false e k h = too-few (omega (arith, length-map ds (λ s. s .char), leb-false (fewest z n) (length ds) e)) (no-digit (r .char) d)
 
   goes-on : (rs ds rest : List KeptRow) → rs ≡ ds ++ rest → Every Digit (chars ds) → length ds ≤ n → (length ds ≡ n) ⊎ (digitNext rest ≡ false)
-      → (b : Bool) → suits z n ds rest ≡ b → Goes (figures len x z n) len (Figured z n) (FigureStop x z n) rs (cond b (taking (restored z n (ranOf ds rest)) rest) (wrong len 14 x rest))
+      → (b : Bool) → suits z n ds rest ≡ b → Goes (figures len x z n) len (Figured z n) (FigureStop (signNext rs) x z n) rs (cond b (taking (restored z n (ranOf ds rest)) rest) (wrong len 14 x rest))
   goes-on rs ds rest split all few why true e =
       let p = and-eq-true-iff (leb (fewest z n) (length ds)) (not (digitNext rest)) .0 e in
       let c = length-map ds (λ s. s .char) in
@@ -134,6 +144,7 @@ module _ (len x : ℕ) (z : Missing) (n : ℕ) where
         least = omega (arith, leb-true (fewest z n) (length ds) (p .0));
         most = omega arith;
         value = restored-full z n ds rest;
+        apart = not-true (digitNext rest) (p .1);
       })
       (λ l h. let d : digitNext l ≡ false = sym (digit-like rest l h) ∙ not-true (digitNext rest) (p .1) in
       figures-are ds l all few (inr d) ∙ rw (p .0, d, restored-any z n ds l rest))
@@ -145,7 +156,7 @@ module _ (len x : ℕ) (z : Missing) (n : ℕ) where
       and-true true h = h
       and-true false h = refl
   goes-on rs ds (r ∷ a) split all few why false e =
-      held (at-row [] ds [] a r split all (miscounted all (why-wrong ds r why e))
+      held (at-row [] ds [] a r split all (miscounted all (why-wrong ds r why e) (first-sign rs ds a r split))
       (λ es l h k. let q : figures len x z n (es ++ (r ∷ l)) ≡ refused x (r .place) = figures-are es (r ∷ l) h (omega arith) (same es k why) ∙ rw (k, e) in
       rw q tt))
     where
@@ -153,8 +164,8 @@ module _ (len x : ℕ) (z : Missing) (n : ℕ) where
       same es k (inl h) = inl (k ∙ h)
       same es k (inr h) = inr h
 
-  pub figures-go : (rs : List KeptRow) → Goes (figures len x z n) len (Figured z n) (FigureStop x z n) rs (figures len x z n rs)
+  pub figures-go : (rs : List KeptRow) → Goes (figures len x z n) len (Figured z n) (FigureStop (signNext rs) x z n) rs (figures len x z n rs)
   figures-go rs =
       let s = spread n rs in
-      subst (λ y. Goes (figures len x z n) len (Figured z n) (FigureStop x z n) rs y) (sym (ap (figures len x z n) (s .split) ∙ figures-are (s .ds) (s .rest) (s .all) (s .few) (s .why)))
+      subst (λ y. Goes (figures len x z n) len (Figured z n) (FigureStop (signNext rs) x z n) rs y) (sym (ap (figures len x z n) (s .split) ∙ figures-are (s .ds) (s .rest) (s .all) (s .few) (s .why)))
       (goes-on rs (s .ds) (s .rest) (s .split) (s .all) (s .few) (s .why) (suits z n (s .ds) (s .rest)) refl)

@@ -26,22 +26,22 @@ use Rattle.places.proofs.BlockStops.{alone, EndStop, ended-goes, BlockS
 pub data HeadStop : ℕ → List ℕ → List ℕ → List ℕ → Type 0 where
   no-percent : {c : ℕ} → (c ≡ 37 → ⊥) → HeadStop 8 [] [] (c ∷ [])
   cut-percent : HeadStop 8 [] [] []
-  in-end : {n : ℕ} {b ds w : List ℕ} → EndStop 8 8 n b ds w → HeadStop n (37 ∷ b) ds w
+  in-end : {n : ℕ} {b ds w : List ℕ} {digit : Bool} → EndStop digit 8 8 n b ds w → HeadStop n (37 ∷ b) ds w
 
 -- "%" and an end
 abbrev Headed : List ℕ → Type 0
 Headed u = (e : List ℕ) × End e × (u ≡ 37 ∷ e)
 
-head-goes : (len : ℕ) (rs : List KeptRow) → Goes (headAt len) len (λ p u. Headed u) HeadStop rs (headAt len rs)
+head-goes : (len : ℕ) (rs : List KeptRow) → Goes (headAt len) len (λ p u l. Headed u) HeadStop rs (headAt len rs)
 unfolding headAt
 head-goes len [] = held (at-end [] [] refl tt cut-percent)
 head-goes len (r ∷ rs) = go (eqb (r .char) 37) refl
   where
-    go : (b : Bool) → eqb (r .char) 37 ≡ b → Goes (λ l. cond (fronts 37 l) (ended len 8 8 (behind l)) (wrong len 8 8 l)) len (λ p u. Headed u) HeadStop (r ∷ rs) (cond b (ended len 8 8 rs) (refused 8 (r .place)))
+    go : (b : Bool) → eqb (r .char) 37 ≡ b → Goes (λ l. cond (fronts 37 l) (ended len 8 8 (behind l)) (wrong len 8 8 l)) len (λ p u l. Headed u) HeadStop (r ∷ rs) (cond b (ended len 8 8 rs) (refused 8 (r .place)))
     go true e =
         let m = eqb-true (r .char) 37 e in
         goes-after {o = ended len 8 8} (r ∷ []) refl (λ l h. ap (λ b. cond b (ended len 8 8 l) (refused 8 (r .place))) e)
-        (goes-map (λ a u h. (u, h, rw m)) (λ n b ds w h. subst (λ c. HeadStop n (c ∷ b) ds w) (sym m) (in-end h)) (ended-goes len 8 8 rs))
+        (goes-map (λ a u l h. (u, h, rw m)) (λ n b ds w h. subst (λ c. HeadStop n (c ∷ b) ds w) (sym m) (in-end h)) (ended-goes len 8 8 rs))
     go false e =
         held (at-row [] [] [] rs r refl tt (no-percent (eqb-false (r .char) 37 e))
         (λ es l h k. alone (λ l. cond (fronts 37 l) (ended len 8 8 (behind l)) (wrong len 8 8 l)) r [] (λ l. rw e tt) es l k))
@@ -82,7 +82,7 @@ module _ (f : Format) (facts : Facts f) (len : ℕ) where
   blocks-held (suc k) from [] n q few e = let z : _≡_ {A = ℕ} 0 1 = cc in absurd (omega arith)
   blocks-held (suc k) from (r ∷ rs) n q few e = go (block-goes f facts len (r ∷ rs)) e (λ to rest. blocks-held k to rest n q)
     where
-      go : {x : Answer (Behind BlockRead)} → Goes (blockAt len f) len (λ b u. SomeBlock f u) (BlockStop f) (r ∷ rs) x
+      go : {x : Answer (Behind BlockRead)} → Goes (blockAt len f) len (λ b u l. SomeBlock f u) (BlockStop f) (r ∷ rs) x
           → (x >>= λ b. blocksAt k len f (b .value .lf + 1) (b .rest) >>= λ es. taken (entry from (b .value) ∷ es)) ≡ refused n q
           → ((to : ℕ) (rest : List KeptRow) → length rest ≤ k → blocksAt k len f to rest ≡ refused n q → Held Unread len (BlocksStop f) rest n q) → Held Unread len (BlocksStop f) (r ∷ rs) n q
       go (held {n = m} {q = p} h) e ih =
@@ -110,7 +110,7 @@ pub program-held : (f : Format) → Facts f → (len : ℕ) (rs : List KeptRow) 
 unfolding programAt
 program-held f facts len rs n q e = go (head-goes len rs) e
   where
-    go : {x : Answer (Behind ℕ)} → Goes (headAt len) len (λ p u. Headed u) HeadStop rs x → (x >>= λ h. blocksAt (length (h .rest)) len f (h .value + 1) (h .rest)) ≡ refused n q
+    go : {x : Answer (Behind ℕ)} → Goes (headAt len) len (λ p u l. Headed u) HeadStop rs x → (x >>= λ h. blocksAt (length (h .rest)) len f (h .value + 1) (h .rest)) ≡ refused n q
         → Held (λ l. Refuses (headAt len l >>= λ h. blocksAt (length (h .rest)) len f (h .value + 1) (h .rest))) len (ProgramStop f) rs n q
     go (held {n = m} {q = p} h) e =
         let a : m ≡ n = cc in

@@ -23,7 +23,7 @@ use Rattle.reading.proofs.Signs.{sign}
 use Rattle.places.specs.Begins.{Digit}
 use Rattle.places.specs.Faults.{Miscounted, SignRow, SignFault, barred-sign, missing-sign}
 use Rattle.places.proofs.Steady.{Like, no-row, first-row, Refuses, Held, at-row, at-end, Goes, took, held, goes-map, goes-bind}
-use Rattle.places.proofs.FigureStops.{Figured, FigureStop, miscounted, cut, figures-go}
+use Rattle.places.proofs.FigureStops.{Figured, signNext, FigureStop, figures-go}
 
 sign-is : (c : ℕ) → isSign c ≡ true → SignRow c
 sign-is c e = go (either (eqb c 43) (eqb c 45) e)
@@ -65,12 +65,16 @@ no-sign-like : (len : ℕ) (s : Sign) (r : KeptRow) (rs : List KeptRow) → isSi
 no-sign-like len s r rs n m l (first-row (inl e)) = rw (← e, n, m)
 no-sign-like len s r rs n m l (first-row {s = q} (inr h)) = rw (digit-no-sign (q .char) (h .1), m)
 
+-- a sign, or none and none at the front
+abbrev SignTaken : Sign → Bool → List ℕ → List KeptRow → Type 0
+SignTaken s neg u rest = SignRows s neg u × (u ≡ [] → signNext rest ≡ false)
+
 module _ (len : ℕ) (s : Sign) where
-  signed-go : (rs : List KeptRow) → Goes (signed len s) len (SignRows s) (SignStop s) rs (signed len s rs)
+  signed-go : (rs : List KeptRow) → Goes (signed len s) len (SignTaken s) (SignStop s) rs (signed len s rs)
   signed-go [] = held (at-end [] [] refl tt cut-sign)
   signed-go (r ∷ rs) = go (isSign (r .char)) refl (mayStand s) refl (mayMiss s) refl
     where
-      stops : (f : SignFault s (r .char)) → ((l : List KeptRow) → signed len s (r ∷ l) ≡ refused 12 (r .place)) → Goes (signed len s) len (SignRows s) (SignStop s) (r ∷ rs) (refused 12 (r .place))
+      stops : (f : SignFault s (r .char)) → ((l : List KeptRow) → signed len s (r ∷ l) ≡ refused 12 (r .place)) → Goes (signed len s) len (SignTaken s) (SignStop s) (r ∷ rs) (refused 12 (r .place))
       stops f e = held (at-row [] [] [] rs r refl tt (fault f) (λ es l h k. alone es l k))
         where
           alone : (es l : List KeptRow) → length es ≡ 0 → Refuses (signed len s (es ++ (r ∷ l)))
@@ -78,25 +82,26 @@ module _ (len : ℕ) (s : Sign) where
           alone (d ∷ es) l k = absurd (omega arith)
 
       go : (b : Bool) → isSign (r .char) ≡ b → (c : Bool) → mayStand s ≡ c → (d : Bool) → mayMiss s ≡ d
-          → Goes (signed len s) len (SignRows s) (SignStop s) (r ∷ rs) (cond b (cond c (taking (eqb (r .char) 45) rs) (refused 12 (r .place))) (cond d (taking false (r ∷ rs)) (refused 12 (r .place))))
-      go true e true f d g = took {a = eqb (r .char) 45} (r ∷ []) refl (sign-stands s (r .char) f (sign-is (r .char) e)) (λ l h. rw (e, f))
+          → Goes (signed len s) len (SignTaken s) (SignStop s) (r ∷ rs) (cond b (cond c (taking (eqb (r .char) 45) rs) (refused 12 (r .place))) (cond d (taking false (r ∷ rs)) (refused 12 (r .place))))
+      go true e true f d g = took {a = eqb (r .char) 45} (r ∷ []) refl (sign-stands s (r .char) f (sign-is (r .char) e), λ n. let z = ap length n in absurd (omega arith)) (λ l h. rw (e, f))
       go true e false f d g = stops (sign-barred s (r .char) f e) (λ l. rw (e, f))
-      go false e c f true g = took [] refl (sign-missing s g) (λ l h. no-sign-like len s r rs e g l h)
+      go false e c f true g = took [] refl (sign-missing s g, λ n. e) (λ l h. no-sign-like len s r rs e g l h)
       go false e c f false g = stops (sign-asked s (r .char) g e) (λ l. rw (e, g))
 
 -- ---- the sign and the figures
 
 -- a sign that the item allows, and enough digits
-pub record Given (k : Kind) (y : Bool × ℕ) (u : List ℕ) : Type 0 where
+pub record Given (k : Kind) (y : Bool × ℕ) (u : List ℕ) (rest : List KeptRow) : Type 0 where
   pub sgn : List ℕ
   pub ds : List ℕ
   pub split : u ≡ sgn ++ ds
   pub signs : SignRows (signOf k) (y .0) sgn
-  pub figured : Figured (missingOf k) (width k) (y .1) ds
+  pub figured : Figured (missingOf k) (width k) (y .1) ds rest
 
 pub data DataStop (k : Kind) : ℕ → List ℕ → List ℕ → List ℕ → Type 0 where
   in-sign : {n : ℕ} {b ds w : List ℕ} → SignStop (signOf k) n b ds w → DataStop k n b ds w
-  in-figures : {n m : ℕ} {z : ℤ} {s b ds w : List ℕ} → Signed m (signOf k) z s → FigureStop 11 (missingOf k) (width k) n b ds w → DataStop k n (s ++ b) ds w
+  in-figures : {n m : ℕ} {z : ℤ} {s b ds w : List ℕ} {sg : Bool} → Signed m (signOf k) z s → (s ≡ [] → sg ≡ false) → FigureStop sg 11 (missingOf k) (width k) n b ds w
+      → DataStop k n (s ++ b) ds w
 
 -- the sign and the figures behind an address
 abbrev pub given : ℕ → Kind → List KeptRow → Answer (Behind (Bool × ℕ))
@@ -104,6 +109,6 @@ given len k rs = signed len (signOf k) rs >>= λ s. figures len 11 (missingOf k)
 
 pub given-goes : (len : ℕ) (k : Kind) (rs : List KeptRow) → Goes (given len k) len (Given k) (DataStop k) rs (given len k rs)
 given-goes len k rs =
-    goes-bind (goes-map (λ a u h. h) (λ n b ds w h. in-sign h) (signed-go len (signOf k) rs)) λ neg s rest g.
-    goes-bind (goes-map (λ a u h. h) (λ n b ds w h. in-figures (g 0) h) (figures-go len 11 (missingOf k) (width k) rest)) λ m ds rest₂ h.
-    took [] refl (record { sgn = chars s; ds = chars ds; split = rw append-nil; signs = g; figured = h }) (λ l e. refl)
+    goes-bind (goes-map (λ a u l h. h) (λ n b ds w h. in-sign h) (signed-go len (signOf k) rs)) λ neg s rest e g.
+    goes-bind (goes-map (λ a u l h. h) (λ n b ds w h. in-figures (g .0 0) (g .1) h) (figures-go len 11 (missingOf k) (width k) rest)) λ m ds rest₂ e h.
+    took [] refl (record { sgn = chars s; ds = chars ds; split = rw append-nil; signs = g .0; figured = h }) (λ l e. refl)

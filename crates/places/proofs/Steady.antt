@@ -65,17 +65,17 @@ held-after {S = S} u e f g (at-end {n} b ds split all is) =
 
 -- ---- a parser's answer
 
--- taken: R of the rows that it took, and it takes them so before all rows like those behind; or refused
-pub data Goes {A : Type 0} (p : List KeptRow → Answer (Behind A)) (len : ℕ) (R : A → List ℕ → Type 0) (Q : ℕ → List ℕ → List ℕ → List ℕ → Type 0) (rs : List KeptRow)
+-- taken: R of the rows that it took and of those behind, and it takes them so before all rows like those behind; or refused
+pub data Goes {A : Type 0} (p : List KeptRow → Answer (Behind A)) (len : ℕ) (R : A → List ℕ → List KeptRow → Type 0) (Q : ℕ → List ℕ → List ℕ → List ℕ → Type 0) (rs : List KeptRow)
     : Answer (Behind A) → Type 0 where
-  took : {a : A} {rest : List KeptRow} (u : List KeptRow) → rs ≡ u ++ rest → R a (chars u) → ((l : List KeptRow) → Like rest l → p (u ++ l) ≡ taking a l)
+  took : {a : A} {rest : List KeptRow} (u : List KeptRow) → rs ≡ u ++ rest → R a (chars u) rest → ((l : List KeptRow) → Like rest l → p (u ++ l) ≡ taking a l)
       → Goes p len R Q rs (taking a rest)
   held : {n q : ℕ} → Held (λ l. Refuses (p l)) len Q rs n q → Goes p len R Q rs (refused n q)
 
-module _ {A : Type 0} {len : ℕ} {R : A → List ℕ → Type 0} {Q : ℕ → List ℕ → List ℕ → List ℕ → Type 0} where
+module _ {A : Type 0} {len : ℕ} {R : A → List ℕ → List KeptRow → Type 0} {Q : ℕ → List ℕ → List ℕ → List ℕ → Type 0} where
   -- where the parser goes as o does behind the rows u
   pub goes-after : {o p : List KeptRow → Answer (Behind A)} {rs rest : List KeptRow} {x : Answer (Behind A)} (u : List KeptRow) → rs ≡ u ++ rest
-      → ((l : List KeptRow) → Like rest l → p (u ++ l) ≡ o l) → Goes o len (λ a v. R a (chars u ++ v)) (λ n b ds w. Q n (chars u ++ b) ds w) rest x → Goes p len R Q rs x
+      → ((l : List KeptRow) → Like rest l → p (u ++ l) ≡ o l) → Goes o len (λ a v l. R a (chars u ++ v) l) (λ n b ds w. Q n (chars u ++ b) ds w) rest x → Goes p len R Q rs x
   goes-after {p = p} u e same (took {a} {rest} v split is t) =
       took {a = a} (u ++ v) (e ∙ ap (λ l. u ++ l) split ∙ sym (append-assoc u v rest)) (rw (chars-append u v) is)
       (λ l h. ap p (append-assoc u v l) ∙ same (v ++ l) (subst (λ x. Like x (v ++ l)) (sym split) (like-after v h)) ∙ t l h)
@@ -90,14 +90,14 @@ module _ {A : Type 0} {len : ℕ} {R : A → List ℕ → Type 0} {Q : ℕ → L
       go true e = goes-after [] refl (λ l h. ap (λ b. cond b (o l) (p l)) (sym (st rs l h) ∙ e)) (f e)
       go false e = goes-after [] refl (λ l h. ap (λ b. cond b (o l) (p l)) (sym (st rs l h) ∙ e)) (g e)
 
-pub goes-map : {A : Type 0} {p : List KeptRow → Answer (Behind A)} {len : ℕ} {R T : A → List ℕ → Type 0} {Q S : ℕ → List ℕ → List ℕ → List ℕ → Type 0} {rs : List KeptRow}
-    {x : Answer (Behind A)} → ((a : A) (u : List ℕ) → R a u → T a u) → ((n : ℕ) (b ds w : List ℕ) → Q n b ds w → S n b ds w) → Goes p len R Q rs x → Goes p len T S rs x
-goes-map f g (took {a} u e is t) = took u e (f a (chars u) is) t
+pub goes-map : {A : Type 0} {p : List KeptRow → Answer (Behind A)} {len : ℕ} {R T : A → List ℕ → List KeptRow → Type 0} {Q S : ℕ → List ℕ → List ℕ → List ℕ → Type 0} {rs : List KeptRow}
+    {x : Answer (Behind A)} → ((a : A) (u : List ℕ) (l : List KeptRow) → R a u l → T a u l) → ((n : ℕ) (b ds w : List ℕ) → Q n b ds w → S n b ds w) → Goes p len R Q rs x → Goes p len T S rs x
+goes-map f g (took {a} {rest} u e is t) = took u e (f a (chars u) rest is) t
 goes-map f g (held h) = held (held-after [] refl (λ l k no. no) g h)
 
-pub goes-bind : {A B : Type 0} {p : List KeptRow → Answer (Behind A)} {f : A → List KeptRow → Answer (Behind B)} {len : ℕ} {R : A → List ℕ → Type 0} {T : B → List ℕ → Type 0}
+pub goes-bind : {A B : Type 0} {p : List KeptRow → Answer (Behind A)} {f : A → List KeptRow → Answer (Behind B)} {len : ℕ} {R : A → List ℕ → List KeptRow → Type 0} {T : B → List ℕ → List KeptRow → Type 0}
     {Q : ℕ → List ℕ → List ℕ → List ℕ → Type 0} {rs : List KeptRow} {x : Answer (Behind A)} → Goes p len R Q rs x
-    → ((a : A) (u rest : List KeptRow) → R a (chars u) → Goes (λ l. f a l) len (λ b v. T b (chars u ++ v)) (λ n b ds w. Q n (chars u ++ b) ds w) rest (f a rest))
+    → ((a : A) (u rest : List KeptRow) → rs ≡ u ++ rest → R a (chars u) rest → Goes (λ l. f a l) len (λ b v l. T b (chars u ++ v) l) (λ n b ds w. Q n (chars u ++ b) ds w) rest (f a rest))
     → Goes (λ l. p l >>= λ y. f (y .value) (y .rest)) len T Q rs (x >>= λ y. f (y .value) (y .rest))
-goes-bind {f = f} (took {a} {rest} u e is t) g = goes-after u e (λ l h. ap (λ x. x >>= λ y. f (y .value) (y .rest)) (t l h)) (g a u rest is)
+goes-bind {f = f} (took {a} {rest} u e is t) g = goes-after u e (λ l h. ap (λ x. x >>= λ y. f (y .value) (y .rest)) (t l h)) (g a u rest e is)
 goes-bind {p = p} {f = f} (held h) g = held (held-after [] refl (λ l k no. refuses-bind (p l) (λ y. f (y .value) (y .rest)) no) (λ n b ds w q. q) h)

@@ -2,6 +2,7 @@
 use Prim.Native.Nat.{ℕ, _≤_, _<_}
 use mathlib.Core.Path.{_≡_, refl, sym, ap, _∙_, subst}
 use mathlib.Core.List.{List, [], _∷_, _++_, append-nil, append-assoc, List·Memᴰ, List·Memᴰ·head, List·Memᴰ·tail}
+use mathlib.Core.Bool.{false≢true}
 use native.Mathlib.Nat.{le-refl}
 use native.Mathlib.Omega.{arith}
 use lib.ListN.{length}
@@ -17,15 +18,16 @@ use Rattle.reading.specs.declared.Block.{Block}
 use Rattle.reading.specs.Relation.{digits, Signed, End, lf, cr-lf, skipRows, Blocks, Program, program}
 use Rattle.reading.specs.Figures.{fewest}
 use Rattle.reading.specs.Parse.{missingOf}
+use Rattle.reading.proofs.Signs.{sign}
 use Rattle.places.specs.Begins.{Digit, Begins, Due}
 use Rattle.places.specs.Faults as told
-use Rattle.places.specs.Faults.{Miscounted, too-few, too-many, EndDue, of-head, of-block, Misfit, Cut, in-head, SpeedDue, Spoilt}
+use Rattle.places.specs.Faults.{Miscounted, too-few, too-many, EndDue, of-head, of-block, SignRow, Misfit, Cut, in-head, SpeedDue, Spoilt}
 use Rattle.places.proofs.DigitLists.{fewest-most}
 use Rattle.places.proofs.FigureStops.{FigureStop, miscounted, cut}
 use Rattle.places.proofs.SignStops.{SignStop, fault, cut-sign, DataStop, in-sign, in-figures}
 use Rattle.places.proofs.WordStops.{WordStop, in-data, thirteen}
-use Rattle.places.proofs.WordsStops.{WordsStop, in-word}
-use Rattle.places.proofs.BlockStops.{EndStop, no-end, no-lf, cut-end, cut-lf, BlockStop, no-start, cut-start, in-number, in-words}
+use Rattle.places.proofs.WordsStops.{WordsStop, in-word, last-behind}
+use Rattle.places.proofs.BlockStops.{opened-some, EndStop, no-end, no-lf, cut-end, cut-lf, BlockStop, no-start, cut-start, in-number, in-words}
 use Rattle.places.proofs.ProgramStops.{HeadStop, no-percent, cut-percent, ProgramStop}
 use Rattle.places.proofs.Ahead.{begins-from, closes-begins, head-begins, words-close, cr-begins, number-begins, start-begins, due-closes, Outlook, open-to, spoilt-for, outlook, address-begins, before-begins, figures-begin}
 
@@ -70,21 +72,28 @@ item-widths (more l w d h) (List·Memᴰ·tail m) = item-widths h m
 apart : (x : List ℕ) (l : ℕ) (s ds : List ℕ) → x ++ (l ∷ (s ++ ds)) ≡ x ++ (l ∷ (s ++ [])) ++ ds
 apart x l s ds = simp (append-nil, append-assoc)
 
+both-empty : (s ds : List ℕ) → s ++ ds ≡ [] → (s ≡ []) × (ds ≡ [])
+both-empty [] ds e = (refl, e)
+both-empty (c ∷ s) ds e = let z = ap length e in absurd (omega arith)
+
 module _ {f : Format} (it : Item) (w : Widths (it .kind)) (item : List·Memᴰ it (itemsOf f)) (x : List ℕ) (due : Due f it x) (cuts : (s : List ℕ) → Short f 14 (x ++ s)) where
   word-told : {n : ℕ} {b ds v : List ℕ} → WordStop it n b ds v → Told f n (x ++ b) ds v
   word-told (in-data (in-sign (fault h))) = misfit (sym (append-nil _)) (told.sign it x item due h) (address-begins it w x due)
   word-told (in-data (in-sign cut-sign)) = short (sym (append-nil _)) (cuts (it .letter ∷ [])) (address-begins it w x due)
-  word-told (in-data (in-figures {s = s} g (miscounted {ds} {c} all m))) =
+  word-told (in-data (in-figures {s = s} g a (miscounted {ds} {c} all m d))) =
       let most = miscounted-most (fewest-most (missingOf (it .kind)) (width (it .kind)) (some-width (it .kind) w)) m in
       go (outlook it w g ds all most)
     where
+      bare : s ++ ds ≡ [] → SignRow c → ⊥
+      bare e h = let n = both-empty s ds e in false≢true (sym (d (n .1) ∙ a (n .0)) ∙ sign c h)
+
       go : Outlook it s ds → Told f 11 (x ++ (it .letter ∷ (s ++ []))) ds (c ∷ [])
-      go (open-to o h) = misfit (apart x (it .letter) s ds) (told.figures it x item due g all m) (figures-begin it w x due s ds o h)
+      go (open-to o h) = misfit (apart x (it .letter) s ds) (told.figures it x item due g all m bare) (figures-begin it w x due s ds o h)
       go (spoilt-for {k} e n h) =
           spoilt {x = x} (ap (λ l. x ++ (it .letter ∷ (l ++ []))) n) (record { item = item; speed = e; due = due }) h
           (subst (λ j. length ds ≤ width j) e (miscounted-most (fewest-most (missingOf (it .kind)) (width (it .kind)) (some-width (it .kind) w)) m))
-          (subst (λ l. Misfit f 11 (x ++ (it .letter ∷ (l ++ ds))) c) n (told.figures it x item due g all m))
-  word-told (in-data (in-figures {s = s} g (cut {ds} all l))) =
+          (subst (λ l. Misfit f 11 (x ++ (it .letter ∷ (l ++ ds))) c) n (told.figures it x item due g all m bare))
+  word-told (in-data (in-figures {s = s} g a (cut {ds} all l))) =
       go (outlook it w g ds all (omega (arith, fewest-most (missingOf (it .kind)) (width (it .kind)) (some-width (it .kind) w))))
     where
       go : Outlook it s ds → Told f 14 (x ++ (it .letter ∷ (s ++ []))) ds []
@@ -105,7 +114,7 @@ module _ {f : Format} (facts : Facts f) {bs : List Block} {h : List ℕ} (p : Pr
   block-told : {n : ℕ} {b ds w : List ℕ} → BlockStop f n b ds w → Told f n (h ++ b) ds w
   block-told (no-start skip c) = misfit (sym (append-nil _)) (told.start skip p c) (start-begins p skip)
   block-told (cut-start skip) = short (sym (append-nil _)) (cut-behind _ (skipRows skip) refl) (start-begins p skip)
-  block-told (in-number skip alignment (miscounted {ds} all m)) =
+  block-told (in-number skip alignment (miscounted {ds} all m d)) =
       let e : h ++ told.numberRows skip alignment ds ≡ h ++ told.numberRows skip alignment [] ++ ds = simp append-assoc in
       misfit e (told.number skip alignment p all m) (number-begins p skip alignment ds all (miscounted-most (le-refl (f .sequence)) m))
   block-told (in-number skip alignment (cut {ds} all l)) =
@@ -115,24 +124,24 @@ module _ {f : Format} (facts : Facts f) {bs : List Block} {h : List ℕ} (p : Pr
       let e : h ++ (s ++ r) ++ b ≡ h ++ (s ++ (r ++ b)) = simp append-assoc in
       subst (λ y. Told f n y ds w) e
       (word-told it (item-widths (facts .fair) (due .0)) (due .0) (h ++ (s ++ r)) (due-closes p r it o due) (λ t. cut-behind _ (s ++ r ++ t) (sym (append-assoc h (s ++ r) t))) q)
-  block-told (BlockStop.in-end {s = s} {r = r} o ws (no-end a b)) =
+  block-told (BlockStop.in-end {s = s} {r = r} o ws firm (no-end a b d)) =
       let e : h ++ (s ++ r) ≡ h ++ (s ++ (r ++ [])) ++ [] = simp append-nil in
       let c = words-close p o ws in
-      misfit e (told.end (of-block c) a b) (closes-begins (h ++ (s ++ r)) [] (h ++ (s ++ r)) c (sym (append-nil _)))
-  block-told (BlockStop.in-end {s = s} {r = r} o ws (no-lf {c} a)) =
+      misfit e (told.end (of-block c) a b (λ k. d (firm (subst Digit (last-behind h (s ++ r) (opened-some o r)) k)))) (closes-begins (h ++ (s ++ r)) [] (h ++ (s ++ r)) c (sym (append-nil _)))
+  block-told (BlockStop.in-end {s = s} {r = r} o ws firm (no-lf {c} a)) =
       let e : h ++ (s ++ r) ≡ h ++ (s ++ (r ++ [])) = simp append-nil in
       subst (λ y. Told f 10 y [] (13 ∷ c ∷ [])) e (no-lf-behind (of-block (words-close p o ws)) a (cr-begins p o ws))
-  block-told (BlockStop.in-end {s = s} {r = r} o ws cut-end) =
+  block-told (BlockStop.in-end {s = s} {r = r} o ws firm cut-end) =
       let e : h ++ (s ++ r) ≡ h ++ (s ++ (r ++ [])) ++ [] = simp append-nil in
       short e (cut-behind _ (s ++ r) refl) (closes-begins (h ++ (s ++ r)) [] (h ++ (s ++ r)) (words-close p o ws) (sym (append-nil _)))
-  block-told (BlockStop.in-end {s = s} {r = r} o ws cut-lf) =
+  block-told (BlockStop.in-end {s = s} {r = r} o ws firm cut-lf) =
       let e : h ++ (s ++ r) ++ (13 ∷ []) ≡ h ++ (s ++ (r ++ (13 ∷ []))) ++ [] = simp (append-nil, append-assoc) in
       short e (cut-behind _ (s ++ r ++ (13 ∷ [])) (sym (append-assoc h (s ++ r) (13 ∷ [])))) (cr-begins p o ws)
 
 head-told : {f : Format} {n : ℕ} {b ds w : List ℕ} → HeadStop n b ds w → Told f n b ds w
 head-told (no-percent c) = misfit refl (told.percent c) ([], 37 ∷ 10 ∷ [], program lf Blocks.none)
 head-told cut-percent = short refl (head-short (37 ∷ 10 ∷ []) lf refl (lit< tt)) ([], 37 ∷ 10 ∷ [], program lf Blocks.none)
-head-told (HeadStop.in-end (no-end a b)) = misfit refl (told.end of-head a b) head-begins
+head-told (HeadStop.in-end (no-end a b d)) = misfit refl (told.end of-head a b (λ h. absurd (omega arith))) head-begins
 head-told (HeadStop.in-end (no-lf a)) = no-lf-behind of-head a ([], 10 ∷ [], program cr-lf Blocks.none)
 head-told (HeadStop.in-end cut-end) = short refl (head-short (10 ∷ []) lf refl (lit< tt)) head-begins
 head-told (HeadStop.in-end cut-lf) = short refl (head-short (10 ∷ []) cr-lf refl (lit< tt)) ([], 10 ∷ [], program cr-lf Blocks.none)

@@ -21,7 +21,7 @@ use Rattle.shorthand.specs.Facts.{Widths}
 use Rattle.reading.specs.declared.Value.{Value}
 use Rattle.reading.specs.declared.Word.{Word}
 use Rattle.reading.specs.Relation.{digits, Signed, never, Data, number, speed, dimension, Worded, word, chars}
-use Rattle.reading.specs.Figures.{Behind, taking, wrong, figures, signed}
+use Rattle.reading.specs.Figures.{Behind, taking, wrong, digitNext, figures, signed}
 use Rattle.reading.specs.Parse.{missingOf, spoken, meant, dataAt, wordAt}
 use Rattle.reading.proofs.DigitRows.{worth, digits-length, digits-digit, digits-worth}
 use Rattle.reading.proofs.RowsAhead.{digit-no-sign}
@@ -60,7 +60,7 @@ word-is len it r l =
 barred-none : {m : ℕ} {z : ℤ} {s : List ℕ} → Signed m barred z s → s ≡ []
 barred-none never = refl
 
-full-digits : (j m : ℕ) (u : List ℕ) → Figured Nothing j m u → (m < 10 ^ j) × (u ≡ digits j m)
+full-digits : (j m : ℕ) (u : List ℕ) {rest : List KeptRow} → Figured Nothing j m u rest → (m < 10 ^ j) × (u ≡ digits j m)
 full-digits j m u h =
     let c = coded j u (h .all) (omega (arith, h .least, h .most)) in
     let e : m ≡ c .0 = h .value refl ∙ ap (worth 0) (c .2) ∙ digits-worth j (c .0) 0 (c .1) ∙ omega arith in
@@ -79,7 +79,7 @@ data Judged (a m : ℕ) (u : List ℕ) (it : Item) : Answer Value → Type 0 whe
   second : {j : ℕ} → it .kind ≡ Kind.Speed j → m < 10 ^ j → u ≡ digits j m → T (secondZero j m) → Judged a m u it (refused 13 a)
 
 module _ (a : ℕ) (y : Bool × ℕ) (u : List ℕ) where
-  judged : (l : ℕ) (k : Kind) → Widths k → Given k y u → Judged a (y .1) u (record { letter = l; kind = k }) (meant a k (y .0) (y .1))
+  judged : (l : ℕ) (k : Kind) {rest : List KeptRow} → Widths k → Given k y u rest → Judged a (y .1) u (record { letter = l; kind = k }) (meant a k (y .0) (y .1))
   judged l (Plain n) w g =
       let p = some-punched Nothing n (g .ds) (g .figured .all) (g .figured .least) (g .figured .most) in
       let e : u ≡ g .ds = g .split ∙ ap (λ s. s ++ g .ds) (barred-none (g .signs 0)) in
@@ -99,6 +99,10 @@ module _ (a : ℕ) (y : Bool × ℕ) (u : List ℕ) where
       means (subst (λ x. Some (record { letter = l; kind = Kind.Dimension d }) (l ∷ x)) (sym (g .split)) (stands _ (dimension (g .signs (p .0)) (p .1))))
 
 -- ---- the word
+
+-- some word of the item, and no further digit behind it
+abbrev pub SomeWord : Item → Word → List ℕ → List KeptRow → Type 0
+SomeWord it w u rest = Some it u × (digitNext rest ≡ false)
 
 pub data WordStop (it : Item) : ℕ → List ℕ → List ℕ → List ℕ → Type 0 where
   in-data : {n : ℕ} {b ds w : List ℕ} → DataStop (it .kind) n b ds w → WordStop it n (it .letter ∷ b) ds w
@@ -142,7 +146,7 @@ module _ (len j : ℕ) (some : 1 ≤ j) where
 
 module _ (len : ℕ) (it : Item) (w : Widths (it .kind)) (r : KeptRow) (addressed : r .char ≡ it .letter) (rs : List KeptRow) where
   word-from : {x : Answer (Behind (Bool × ℕ))} → Goes (given len (it .kind)) len (Given (it .kind)) (DataStop (it .kind)) rs x
-      → Goes (wordAt len it) len (λ v u. Some it u) (WordStop it) (r ∷ rs) (x >>= λ y. verdict (r .place) it (y .value .0) (y .value .1) (y .rest))
+      → Goes (wordAt len it) len (SomeWord it) (WordStop it) (r ∷ rs) (x >>= λ y. verdict (r .place) it (y .value .0) (y .value .1) (y .rest))
   word-from (held h) =
       held (held-after (r ∷ []) refl
       (λ l k nay. subst Refuses (sym (word-is len it r l)) (refuses-bind (given len (it .kind) l) (λ y. verdict (r .place) it (y .value .0) (y .value .1) (y .rest)) nay))
@@ -151,9 +155,9 @@ module _ (len : ℕ) (it : Item) (w : Widths (it .kind)) (r : KeptRow) (addresse
   word-from (took {a = y} {rest = rest} u e g t) = go refl (judged (r .place) y (chars u) (it .letter) (it .kind) w g)
     where
       go : {v : Answer Value} → meant (r .place) (it .kind) (y .0) (y .1) ≡ v → Judged (r .place) (y .1) (chars u) it v
-          → Goes (wordAt len it) len (λ v u. Some it u) (WordStop it) (r ∷ rs) ((v >>= λ x. taking x rest) >>= λ x. taking (record { letter = it .letter; value = x .value }) (x .rest))
+          → Goes (wordAt len it) len (SomeWord it) (WordStop it) (r ∷ rs) ((v >>= λ x. taking x rest) >>= λ x. taking (record { letter = it .letter; value = x .value }) (x .rest))
       go q (means {x} s) =
-          took {a = record { letter = it .letter; value = x }} (r ∷ u) (ap (λ l. r ∷ l) e) (subst (λ c. Some it (c ∷ chars u)) (sym addressed) s) (λ l h. word-is len it r (u ++ l) ∙ rw (t l h, q))
+          took {a = record { letter = it .letter; value = x }} (r ∷ u) (ap (λ l. r ∷ l) e) (subst (λ c. Some it (c ∷ chars u)) (sym addressed) s, g .figured .apart) (λ l h. word-is len it r (u ++ l) ∙ rw (t l h, q))
       go q (second {j} k small are zero) =
           held (at-row [] [] u rest r (ap (λ l. r ∷ l) e) tt
           (subst (λ c. WordStop it 13 [] [] c) (sym (ap (λ c. c ∷ chars u) addressed ∙ ap (λ d. it .letter ∷ d) are)) (thirteen (y .1) k small zero))
@@ -168,5 +172,5 @@ module _ (len : ℕ) (it : Item) (w : Widths (it .kind)) (r : KeptRow) (addresse
               (code-refused len j (omega (arith, speeds .0)) (speeds .1) (speeds .0) (it .letter) (y .1) r u l small zero are)
           alone (d ∷ es) l n = absurd (omega arith)
 
-  pub word-goes : Goes (wordAt len it) len (λ v u. Some it u) (WordStop it) (r ∷ rs) (wordAt len it (r ∷ rs))
-  word-goes = subst (λ x. Goes (wordAt len it) len (λ v u. Some it u) (WordStop it) (r ∷ rs) x) (sym (word-is len it r rs)) (word-from (given-goes len (it .kind) rs))
+  pub word-goes : Goes (wordAt len it) len (SomeWord it) (WordStop it) (r ∷ rs) (wordAt len it (r ∷ rs))
+  word-goes = subst (λ x. Goes (wordAt len it) len (SomeWord it) (WordStop it) (r ∷ rs) x) (sym (word-is len it r rs)) (word-from (given-goes len (it .kind) rs))

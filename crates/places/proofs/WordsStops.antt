@@ -1,9 +1,10 @@
 -- How the words of a block go, with tabs and without.
-use Prim.Native.Nat.{ℕ}
+use Prim.Native.Nat.{ℕ, _<_}
 use mathlib.Core.Path.{_≡_, refl, sym, ap, _∙_, subst}
 use mathlib.Core.Bool.{Bool, true, false, _||_, cond, false≢true}
 use mathlib.Core.List.{List, [], _∷_, _++_, append-nil, append-assoc, List·Memᴰ, List·Memᴰ·head, List·Memᴰ·tail}
 use native.Mathlib.Omega.{arith}
+use lib.ListN.{length}
 use lib.Dec.{T, eqb}
 use borrow.Author.Tests.{eqb-true}
 use Rattle.rows.specs.Answer.{Answer, _>>=_}
@@ -13,11 +14,13 @@ use Rattle.shorthand.specs.Edition.{letters, anyOf}
 use Rattle.shorthand.specs.Facts.{Widths, Fair, none, more}
 use Rattle.reading.specs.declared.Word.{Word}
 use Rattle.reading.specs.Relation.{Worded, tab, Words, done, out, here, chars}
-use Rattle.reading.specs.Figures.{Behind, taking, fronts, isDigit}
+use Rattle.reading.specs.Figures.{Behind, taking, fronts, isDigit, digitNext}
 use Rattle.reading.specs.Parse.{wordAt, steps, stepped, consWord, wordsAt}
+use Rattle.places.specs.Begins.{Digit}
+use Rattle.places.specs.Faults.{lastOf}
 use Rattle.places.proofs.Steady.{Like, Goes, took, held, goes-after, goes-if, goes-map, goes-bind}
 use Rattle.places.proofs.FigureStops.{fronts-like}
-use Rattle.places.proofs.WordStops.{Some, WordStop, word-goes}
+use Rattle.places.proofs.WordStops.{Some, SomeWord, WordStop, word-goes}
 
 -- ---- letters are no digits
 
@@ -81,7 +84,7 @@ steps-like true x y h = fronts-like 9 refl x y h
 steps-like false x y h = refl
 
 word-fronted : (len : ℕ) (it : Item) → Widths (it .kind) → (rs : List KeptRow) → fronts (it .letter) rs ≡ true
-    → Goes (wordAt len it) len (λ v u. Some it u) (WordStop it) rs (wordAt len it rs)
+    → Goes (wordAt len it) len (SomeWord it) (WordStop it) rs (wordAt len it rs)
 word-fronted len it w [] e = absurd (false≢true e)
 word-fronted len it w (r ∷ rs) e = word-goes len it w r (eqb-true (r .char) (it .letter) e) rs
 
@@ -89,22 +92,58 @@ word-fronted len it w (r ∷ rs) e = word-goes len it w r (eqb-true (r .char) (i
 abbrev pub SomeWords : Bool → List Item → List ℕ → Type 0
 SomeWords tabs its u = (ws : List Word) × Words tabs its ws u
 
+-- ---- no digit behind a digit
+
+-- where the rows u end in a digit, none stands behind them
+abbrev pub Firm : List ℕ → List KeptRow → Type 0
+Firm u rest = Digit (lastOf u) → digitNext rest ≡ false
+
+last-append : (x : List ℕ) (c : ℕ) (y : List ℕ) → lastOf (x ++ (c ∷ y)) ≡ lastOf (c ∷ y)
+last-append [] c y = refl
+last-append (d ∷ []) c y = refl
+last-append (d ∷ (e ∷ x)) c y = last-append (e ∷ x) c y
+
+pub last-behind : (x y : List ℕ) → 0 < length y → lastOf (x ++ y) ≡ lastOf y
+last-behind x [] some = absurd (omega arith)
+last-behind x (c ∷ y) some = last-append x c y
+
+firm-none : (rest : List KeptRow) → Firm [] rest
+firm-none rest h = absurd (omega arith)
+
+firm-tab : (tabs : Bool) (v : List ℕ) (rest : List KeptRow) → Firm v rest → Firm (tab tabs ++ v) rest
+firm-tab false v rest f = f
+firm-tab true [] rest f = λ h. absurd (omega arith)
+firm-tab true (c ∷ v) rest f = f
+
+-- rows behind which no digit stands, and then the rows u
+pub firm-after : (x : List ℕ) (u rest left : List KeptRow) → rest ≡ u ++ left → digitNext rest ≡ false → Firm (chars u) left → Firm (x ++ chars u) left
+firm-after x [] rest left e d f h = ap digitNext (sym e) ∙ d
+firm-after x (c ∷ u) rest left e d f h = f (subst Digit (last-append x (c .char) (chars u)) h)
+
+-- ---- all words
+
+-- some words of the items, and no digit behind a digit
+abbrev pub WordsTaken : Bool → List Item → List Word → List ℕ → List KeptRow → Type 0
+WordsTaken tabs its ws u rest = SomeWords tabs its u × Firm u rest
+
 -- an item that is reached, and those after it
 abbrev reached : ℕ → Bool → Item → List Item → List KeptRow → Answer (Behind (List Word))
 reached len tabs it its l = cond (fronts (it .letter) l) (wordAt len it l >>= λ w. consWord (w .value) (wordsAt len tabs its (w .rest))) (wordsAt len tabs its l)
 
 pub words-go : (len : ℕ) (tabs : Bool) {its : List Item} → Fair its → (rs : List KeptRow)
-    → Goes (wordsAt len tabs its) len (λ ws u. SomeWords tabs its u) (WordsStop tabs its) rs (wordsAt len tabs its rs)
+    → Goes (wordsAt len tabs its) len (WordsTaken tabs its) (WordsStop tabs its) rs (wordsAt len tabs its rs)
 unfolding wordsAt
-words-go len tabs none rs = took [] refl ([], done) (λ l h. refl)
+words-go len tabs none rs = took [] refl (([], done), firm-none rs) (λ l h. refl)
 words-go len tabs (more {it} {its} known widths once fair) rs =
     goes-if (steps tabs) (steps-like tabs) rs
     (λ e. let st = step tabs rs e in
     goes-after {o = reached len tabs it its} (st .rows) (st .split) (λ l h. ap (reached len tabs it its) (st .over l))
     (rw (st .is)
     (goes-if (fronts (it .letter)) (fronts-like (it .letter) (one-fails isDigit letters (it .letter) known refl)) (stepped tabs rs)
-    (λ f. goes-bind (goes-map (λ a u h. h) (λ n b ds w h. in-word it (tab tabs) due-first h) (word-fronted len it widths (stepped tabs rs) f)) λ v s rest h.
-    goes-bind (goes-map (λ a u k. k) (λ n. later-here n (chars s) h) (words-go len tabs fair rest)) λ ws u rest₂ k.
-    took [] refl (h .0 ∷ k .0, rw (append-nil (chars u)) (here (h .1) (k .1))) (λ l e. refl))
-    (λ f. goes-map (λ ws u h. (h .0, out (h .1))) (λ n. later-out n) (words-go len tabs fair (stepped tabs rs))))))
-    (λ e. took [] refl ([], done) (λ l h. refl))
+    (λ f. goes-bind (goes-map (λ a u l h. h) (λ n b ds w h. in-word it (tab tabs) due-first h) (word-fronted len it widths (stepped tabs rs) f)) λ v s rest e h.
+    goes-bind (goes-map (λ a u l k. k) (λ n. later-here n (chars s) (h .0)) (words-go len tabs fair rest)) λ ws u rest₂ e k.
+    took [] refl
+    (rw (append-nil (chars u)) ((h .0 .0 ∷ k .0 .0, here (h .0 .1) (k .0 .1)), rw (← (append-assoc (tab tabs) (chars s) (chars u))) (firm-after (tab tabs ++ chars s) u rest rest₂ e (h .1) (k .1))))
+    (λ l e. refl))
+    (λ f. goes-map (λ ws u l h. ((h .0 .0, out (h .0 .1)), firm-tab tabs u l (h .1))) (λ n. later-out n) (words-go len tabs fair (stepped tabs rs))))))
+    (λ e. took [] refl (([], done), firm-none rs) (λ l h. refl))

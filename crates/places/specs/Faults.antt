@@ -50,15 +50,22 @@ pub data EndDue (f : Format) : ℕ → List ℕ → Type 0 where
   of-head : EndDue f 8 (37 ∷ [])
   of-block : {x : List ℕ} → Closes f x → EndDue f 10 x
 
+-- the last of some rows
+abbrev pub lastOf : List ℕ → ℕ
+lastOf [] = 0
+lastOf (c ∷ []) = c
+lastOf (c ∷ (d ∷ x)) = lastOf (d ∷ x)
+
 -- why the character c does not fit behind the rows x, by the refusal's number
 pub data Misfit (f : Format) : ℕ → List ℕ → ℕ → Type 0 where
   percent : {c : ℕ} → (c ≡ 37 → ⊥) → Misfit f 8 [] c
-  end : {n c : ℕ} {x : List ℕ} → EndDue f n x → (c ≡ 10 → ⊥) → (c ≡ 13 → ⊥) → Misfit f n x c
+  end : {n c : ℕ} {x : List ℕ} → EndDue f n x → (c ≡ 10 → ⊥) → (c ≡ 13 → ⊥) → (Digit (lastOf x) → Digit c → ⊥) → Misfit f n x c
   start : {c : ℕ} {bs : List Block} {h : List ℕ} (skip : Bool) → Program f bs h → NoStart skip c → Misfit f 9 (h ++ skipRows skip) c
   number : {c : ℕ} {bs : List Block} {h ds : List ℕ} (skip alignment : Bool) → Program f bs h → Every Digit ds → Miscounted (f .sequence) (f .sequence) ds c
       → Misfit f 9 (h ++ numberRows skip alignment ds) c
   figures : {c m : ℕ} {z : ℤ} {s ds : List ℕ} (it : Item) (x : List ℕ) → List·Memᴰ it (itemsOf f) → Due f it x → Signed m (signOf (it .kind)) z s → Every Digit ds
-      → Miscounted (fewest (missingOf (it .kind)) (width (it .kind))) (width (it .kind)) ds c → Misfit f 11 (x ++ (it .letter ∷ (s ++ ds))) c
+      → Miscounted (fewest (missingOf (it .kind)) (width (it .kind))) (width (it .kind)) ds c → (s ++ ds ≡ [] → SignRow c → ⊥)
+      → Misfit f 11 (x ++ (it .letter ∷ (s ++ ds))) c
   sign : {c : ℕ} (it : Item) (x : List ℕ) → List·Memᴰ it (itemsOf f) → Due f it x → SignFault (signOf (it .kind)) c → Misfit f 12 (x ++ (it .letter ∷ [])) c
 
 -- ---- a tape that ends too soon
