@@ -12,3 +12,4 @@ pub mod Ahead
 pub mod Told
 pub mod RefusedRows
 pub mod RefusedTapes
+pub mod TapeParts

@@ -1,0 +1,117 @@
+-- A tape cut at a kept row: what stands before it is well formed, and its kept rows are those before that row.
+use Prim.Native.Nat.{ℕ, zero, suc, _+_, _≤_, _<_}
+use mathlib.Core.Path.{_≡_, refl, sym, ap, _∙_, subst}
+use mathlib.Core.Bool.{Bool, true, false, _||_, not, cond}
+use mathlib.Core.List.{List, [], _∷_, _++_, append-assoc}
+use native.Mathlib.Nat.{add-zero, add-suc, suc-add}
+use native.Mathlib.Omega.{arith}
+use lib.ListN.{length, length-append}
+use lib.Dec.{eqb}
+use Rattle.rows.specs.Row.{character, among}
+use Rattle.rows.specs.Kept.{KeptRow, within, stays, keptFrom}
+use Rattle.rows.specs.ControlOut.{Remark, empty, more, WellFormed, end, row, remark}
+use Rattle.rows.proofs.Formed.{not-among}
+
+-- the rows u of t stand before the kept row r, and v behind it
+pub record CutAt (t : List ℕ) (i : ℕ) (b : List KeptRow) (r : KeptRow) : Type 0 where
+  pub u : List ℕ
+  pub c : ℕ
+  pub v : List ℕ
+  pub split : t ≡ u ++ (c ∷ v)
+  pub formed : WellFormed u
+  pub outside : among (character c) (40 ∷ 41 ∷ []) ≡ false
+  pub rows : keptFrom false i u ≡ b
+  pub place : i + length u ≡ r .place
+  pub kept : keptFrom false (i + length u) (c ∷ []) ≡ r ∷ []
+
+-- past a remark and its ")" the kept rows are those of what follows
+past-remark : {r : List ℕ} → Remark r → (c : ℕ) → character c ≡ 41 → (t : List ℕ) (i : ℕ) → keptFrom true i (r ++ (c ∷ t)) ≡ keptFrom false (i + suc (length r)) t
+unfolding keptFrom
+past-remark empty c e t i = rw (e, add-suc, add-zero)
+past-remark (more {b = b} {r = r} h m) c e t i =
+    rw (not-among (character b) 41 (58 ∷ 37 ∷ []) h .0, past-remark m c e t (suc i), add-suc i (suc (length r)), suc-add)
+
+over-remark : (o : ℕ) {r : List ℕ} → character o ≡ 40 → Remark r → (c : ℕ) → character c ≡ 41 → (t : List ℕ) (i : ℕ)
+    → keptFrom false i (o ∷ (r ++ (c ∷ t))) ≡ keptFrom false (suc i + suc (length r)) t
+unfolding keptFrom
+over-remark o e m c f t i = rw (e, past-remark m c f t (suc i))
+
+module _ (x : ℕ) (outside : among (character x) (40 ∷ 41 ∷ []) ≡ false) (i : ℕ) where
+  -- a row outside control-outs is kept or not
+  one-kept : (t : List ℕ) → keptFrom false i (x ∷ t) ≡ cond (stays false (character x)) (record { place = i; char = character x } ∷ keptFrom false (suc i) t) (keptFrom false (suc i) t)
+  unfolding keptFrom
+  one-kept t = rw (not-among (character x) 40 (41 ∷ []) outside .0)
+
+  no-rows : keptFrom false (suc i) [] ≡ []
+  unfolding keptFrom
+  no-rows = refl
+
+module _ (a : List KeptRow) (r : KeptRow) where
+  -- one row more before the cut
+  cut-row : (x : ℕ) {t : List ℕ} (i : ℕ) (b o : List KeptRow) → among (character x) (40 ∷ 41 ∷ []) ≡ false
+      → ((u : List ℕ) → keptFrom false (suc i) u ≡ b → keptFrom false i (x ∷ u) ≡ o) → CutAt t (suc i) b r → CutAt (x ∷ t) i o r
+  cut-row x i b o h f k =
+      let e : i + suc (length (k .u)) ≡ suc i + length (k .u) = omega arith in
+      record {
+        u = x ∷ k .u;
+        c = k .c;
+        v = k .v;
+        split = ap (λ l. x ∷ l) (k .split);
+        formed = row h (k .formed);
+        outside = k .outside;
+        rows = f (k .u) (k .rows);
+        place = e ∙ k .place;
+        kept = subst (λ j. keptFrom false j (k .c ∷ []) ≡ r ∷ []) (sym e) (k .kept);
+      }
+
+  -- or a whole control-out
+  cut-remark : {o : ℕ} {m t : List ℕ} (c i : ℕ) (b : List KeptRow) → character o ≡ 40 → Remark m → character c ≡ 41 → CutAt t (suc i + suc (length m)) b r
+      → CutAt (o ∷ (m ++ (c ∷ t))) i b r
+  cut-remark {o} {m} c i b e h f k =
+      let n : i + suc (length (m ++ (c ∷ k .u))) ≡ suc i + suc (length m) + length (k .u) = simp length-append (omega arith) in
+      record {
+        u = o ∷ (m ++ (c ∷ k .u));
+        c = k .c;
+        v = k .v;
+        split = ap (λ l. o ∷ l) (ap (λ l. m ++ (c ∷ l)) (k .split) ∙ sym (append-assoc m (c ∷ k .u) (k .c ∷ k .v)));
+        formed = remark c e h f (k .formed);
+        outside = k .outside;
+        rows = over-remark o e h c f (k .u) i ∙ k .rows;
+        place = n ∙ k .place;
+        kept = subst (λ j. keptFrom false j (k .c ∷ []) ≡ r ∷ []) (sym n) (k .kept);
+      }
+
+  cut-here : (x : ℕ) (t : List ℕ) (i : ℕ) → among (character x) (40 ∷ 41 ∷ []) ≡ false → stays false (character x) ≡ true → _≡_ {A = KeptRow} (record { place = i; char = character x }) r
+      → CutAt (x ∷ t) i [] r
+  unfolding keptFrom
+  cut-here x t i h st e =
+      record {
+        u = [];
+        c = x;
+        v = t;
+        split = refl;
+        formed = end;
+        outside = h;
+        rows = refl;
+        place = add-zero i ∙ ap (λ k. k .place) e;
+        kept = rw add-zero (one-kept x h i [] ∙ rw (st, no-rows x h i, e));
+      }
+
+  nothing-kept : (i : ℕ) (b : List KeptRow) → keptFrom false i [] ≡ b ++ (r ∷ a) → CutAt [] i b r
+  unfolding keptFrom
+  nothing-kept i b e = let z = ap length e in absurd (omega (arith, length-append b (r ∷ a)))
+
+  pub cut-at : {t : List ℕ} → WellFormed t → (i : ℕ) (b : List KeptRow) → keptFrom false i t ≡ b ++ (r ∷ a) → CutAt t i b r
+  cut-at end i b e = nothing-kept i b e
+  cut-at (row {b = x} {t = t} h w) i b e = go (stays false (character x)) refl b (sym (one-kept x h i t) ∙ e) (λ o k. cut-at w (suc i) o k)
+    where
+      go : (s : Bool) → stays false (character x) ≡ s → (b : List KeptRow)
+          → cond s (record { place = i; char = character x } ∷ keptFrom false (suc i) t) (keptFrom false (suc i) t) ≡ b ++ (r ∷ a)
+          → ((b : List KeptRow) → keptFrom false (suc i) t ≡ b ++ (r ∷ a) → CutAt t (suc i) b r) → CutAt (x ∷ t) i b r
+      go true st [] e ih = cut-here x t i h st (cc)
+      go true st (q ∷ b) e ih =
+          let same : _≡_ {A = KeptRow} (record { place = i; char = character x }) q = cc in
+          let rest : keptFrom false (suc i) t ≡ b ++ (r ∷ a) = cc in
+          cut-row x i b (q ∷ b) h (λ u k. one-kept x h i u ∙ rw (st, k, same)) (ih b rest)
+      go false st b e ih = cut-row x i b b h (λ u k. one-kept x h i u ∙ rw (st, k)) (ih b e)
+  cut-at (remark {o = o} {t = t} c e m f w) i b q = cut-remark c i b e m f (cut-at w _ b (sym (over-remark o e m c f t i) ∙ q))
