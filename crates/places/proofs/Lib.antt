@@ -13,3 +13,4 @@ pub mod Told
 pub mod RefusedRows
 pub mod RefusedTapes
 pub mod TapeParts
+pub mod TapePlaces

@@ -120,7 +120,7 @@ module _ (f : Format) (facts : Facts f) (len : ℕ) (rs b es w a : List KeptRow)
       let up-to : (o : List ℕ) → chars (p .left) ++ (it .letter ∷ (o ++ (r .char ∷ []))) ≡ chars b ++ (chars (rowsOf o) ++ (r .char ∷ chars w)) =
       λ o. rw (p .of-left, e, l, chars-of o) (sym (append-assoc x (it .letter ∷ []) (o ++ (r .char ∷ [])))) in
       let n = length-map es (λ s. s .char) in
-      past-saving (p .left) es a (q .0) r whole (subst (λ y. SpeedDue f it k y) (sym (p .of-left)) due) (q .2) s
+      past-saving (p .left) es a (q .0) r whole (subst (λ y. SpeedDue f it k y) (sym (p .of-left)) due) (q .2) s all
       (subst (λ y. Misfit f 11 (y ++ (it .letter ∷ chars es)) (r .char)) (sym (p .of-left)) (subst (λ d. Misfit f 11 (x ++ (it .letter ∷ chars es)) d) (sym v) m))
       (zeros (length es), zeros-digit (length es), length-replicate (length es) 48, rw (p .of-left) (zeros-begin it (item-widths (facts .fair) (due .item)) x (due .due) (due .speed) (length es) (omega arith)))
       (λ o h j. unsaved (rowsOf o) (rw (chars-of o) h) (length-map o (λ c. record { place = 0; char = c }) ∙ j) _ (up-to o))
