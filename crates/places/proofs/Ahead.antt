@@ -46,7 +46,7 @@ pub begins-from : {f : Format} {bs : List Block} (x y z : List ℕ) → Program 
 begins-from {f} {bs} x y z p e = (bs, y, subst (λ l. Program f bs l) e p)
 
 pub closes-begins : {f : Format} (x y z : List ℕ) → Closes f z → z ≡ x ++ y → Begins f x
-closes-begins x y z (bs, b, p) e = begins-from x (y ++ (10 ∷ [])) (z ++ (10 ∷ [])) p (ap (λ l. l ++ (10 ∷ [])) e ∙ append-assoc x y (10 ∷ []))
+closes-begins x y z c e = begins-from x (y ++ (10 ∷ [])) (z ++ (10 ∷ [])) (c (10 ∷ []) lf .2) (ap (λ l. l ++ (10 ∷ [])) e ∙ append-assoc x y (10 ∷ []))
 
 -- ---- a block
 
@@ -63,14 +63,13 @@ module _ {f : Format} where
 module _ {f : Format} {bs : List Block} {h : List ℕ} (p : Program f bs h) where
   -- whole words of a started block
   pub words-close : {s u : List ℕ} → Opened f s → SomeWords (f .dots) (itemsOf f) u → Closes f (h ++ (s ++ u))
-  words-close {s} {u} o ws =
-      let q = opened-block o ws lf in
-      (bs, q .0, rw (append-assoc h (s ++ u) (10 ∷ []), append-assoc s u (10 ∷ [])) (program-then p (q .1)))
+  words-close {s} {u} o ws e end =
+      let q = opened-block o ws end in
+      (bs, q .0, rw (append-assoc h (s ++ u) e, append-assoc s u e) (program-then p (q .1)))
 
   pub cr-begins : {s u : List ℕ} → Opened f s → SomeWords (f .dots) (itemsOf f) u → Begins f (h ++ (s ++ u) ++ (13 ∷ []))
   cr-begins {s} {u} o ws =
-      let q = opened-block o ws cr-lf in
-      begins-from (h ++ (s ++ u) ++ (13 ∷ [])) (10 ∷ []) (h ++ (s ++ (u ++ (13 ∷ 10 ∷ [])))) (program-then p (q .1)) (simp append-assoc)
+      begins-from (h ++ (s ++ u) ++ (13 ∷ [])) (10 ∷ []) (h ++ (s ++ u) ++ (13 ∷ 10 ∷ [])) (words-close o ws (13 ∷ 10 ∷ []) cr-lf .2) (simp append-assoc)
 
   -- digits of the sequence number, fewer than it has or all
   pub number-begins : (skip alignment : Bool) (ds : List ℕ) → Every Digit ds → length ds ≤ f .sequence → Begins f (h ++ numberRows skip alignment ds)

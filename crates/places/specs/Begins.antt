@@ -6,7 +6,7 @@ use Rattle.shorthand.specs.declared.Item.{Item}
 use Rattle.shorthand.specs.declared.Format.{Format}
 use Rattle.reading.specs.declared.Word.{Word}
 use Rattle.reading.specs.declared.Block.{Block}
-use Rattle.reading.specs.Relation.{Worded, Program}
+use Rattle.reading.specs.Relation.{Worded, End, Program}
 
 abbrev pub Digit : ℕ → Type 0
 Digit c = (48 ≤ c) × (c ≤ 57)
@@ -15,9 +15,9 @@ Digit c = (48 ≤ c) × (c ≤ 57)
 abbrev pub Begins : Format → List ℕ → Type 0
 Begins f x = (bs : List Block) × (more : List ℕ) × Program f bs (x ++ more)
 
--- an end could stand behind these rows, and would close a block
+-- either end could stand behind these rows, and would close a block
 abbrev pub Closes : Format → List ℕ → Type 0
-Closes f x = (bs : List Block) × (b : Block) × Program f (bs ++ (b ∷ [])) (x ++ (10 ∷ []))
+Closes f x = (e : List ℕ) → End e → (bs : List Block) × (b : Block) × Program f (bs ++ (b ∷ [])) (x ++ e)
 
 -- every word of the item could stand behind these rows
 abbrev pub Due : Format → Item → List ℕ → Type 0
