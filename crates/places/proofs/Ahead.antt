@@ -1,11 +1,9 @@
 -- What could stand behind rows that stop somewhere in a program, by the relation alone.
-use Prim.Native.Nat.{ℕ, zero, suc, _+_, _-_, _^_, _≤_, _<_, zero-le}
+use Prim.Native.Nat.{ℕ, zero, suc, _+_, _-_, _≤_, zero-le}
 use mathlib.Core.Path.{_≡_, refl, sym, ap, _∙_, subst}
 use mathlib.Core.Logic.{_⊎_, inl, inr}
-use mathlib.Core.Bool.{Bool, false, cond}
+use mathlib.Core.Bool.{Bool, false}
 use mathlib.Core.List.{List, [], _∷_, _++_, append-nil, append-assoc}
-use native.Mathlib.Nat.{one-le-pow, zero-lt-suc}
-use native.Mathlib.Omega.{arith}
 use lib.ListN.{length, length-replicate}
 use lib.IntN.{ℤ, pos, negℤ}
 use Rattle.rows.specs.Passes.{Every}
@@ -16,11 +14,9 @@ use Rattle.shorthand.specs.declared.Item.{Item}
 use Rattle.shorthand.specs.declared.Format.{Format}
 use Rattle.shorthand.specs.Layout.{Sign, barred, required, optional, signOf, width, itemsOf}
 use Rattle.shorthand.specs.Facts.{Widths}
-use Rattle.reading.specs.declared.Word.{Word}
 use Rattle.reading.specs.declared.Block.{Block}
 use Rattle.reading.specs.Record.{blockOf}
-use Rattle.reading.specs.Relation.{digits, zeros, Signed, never, plus, minus, plus-stands, minus-stands, plus-missing, number, speed, dimension, Worded, done, End, lf, cr-lf, skipRows, sequenceRows, Blocked, block, Blocks, none, more, Program, program}
-use Rattle.reading.specs.Parse.{missingOf}
+use Rattle.reading.specs.Relation.{digits, zeros, Signed, never, plus, minus, plus-stands, minus-stands, plus-missing, number, speed, dimension, done, End, lf, cr-lf, skipRows, sequenceRows, Blocked, block, Blocks, none, more, Program, program}
 use Rattle.places.specs.Begins.{Digit, Begins, Closes, Due}
 use Rattle.places.specs.Faults.{numberRows, Spoilt}
 use Rattle.places.proofs.DigitLists.{zeros-digit, every-append, coded, padded, padded-length}

@@ -8,22 +8,20 @@ use native.Mathlib.Omega.{arith}
 use lib.ListN.{length}
 use lib.Dec.{eqb}
 use borrow.Author.Tests.{eqb-true, eqb-false}
-use Rattle.rows.specs.Answer.{Answer, taken, refused, _>>=_}
+use Rattle.rows.specs.Answer.{Answer, refused, _>>=_}
 use Rattle.rows.specs.Kept.{KeptRow}
-use Rattle.rows.specs.Passes.{Every}
 use Rattle.shorthand.specs.declared.Missing.the-variants.{Nothing}
 use Rattle.shorthand.specs.declared.Format.{Format}
 use Rattle.shorthand.specs.Layout.{itemsOf}
 use Rattle.shorthand.specs.Facts.{Facts}
-use Rattle.reading.specs.declared.Word.{Word}
 use Rattle.reading.specs.declared.Block.{Block}
 use Rattle.reading.specs.Record.{blockOf}
-use Rattle.reading.specs.Relation.{digits, Words, End, lf, cr-lf, skipRows, sequenceRows, Blocked, block, chars}
-use Rattle.reading.specs.Figures.{Behind, taking, wrong, fronts, behind, isDigit, digitNext, ended, figures}
+use Rattle.reading.specs.Relation.{End, lf, cr-lf, skipRows, sequenceRows, Blocked, block, chars}
+use Rattle.reading.specs.Figures.{Behind, taking, fronts, behind, isDigit, digitNext, ended, figures}
 use Rattle.reading.specs.Parse.{BlockRead, wordsAt, sequenced, blockAt}
 use Rattle.places.specs.Begins.{Digit}
 use Rattle.places.specs.Faults.{NoStart, lastOf}
-use Rattle.places.proofs.Steady.{Like, Refuses, Held, at-row, at-end, Goes, took, held, goes-after, goes-if, goes-map, goes-bind}
+use Rattle.places.proofs.Steady.{Refuses, at-row, at-end, Goes, took, held, goes-after, goes-if, goes-map, goes-bind}
 use Rattle.places.proofs.DigitLists.{no-digit, coded}
 use Rattle.places.proofs.FigureStops.{fronts-like, Figured, FigureStop, figures-go}
 use Rattle.places.proofs.WordsStops.{SomeWords, WordsStop, firm-after, words-go}

@@ -9,18 +9,18 @@ use native.Mathlib.Omega.{arith}
 use lib.ListN.{length, length-map}
 use lib.Dec.{eqb, leb}
 use borrow.Author.Tests.{leb-true, leb-false, not-true, ne-eqb}
-use Rattle.rows.specs.Answer.{Answer, refused}
+use Rattle.rows.specs.Answer.{refused}
 use Rattle.rows.specs.Kept.{KeptRow}
 use Rattle.rows.specs.Passes.{Every}
 use Rattle.shorthand.specs.declared.Missing.{Missing}
 use Rattle.shorthand.specs.declared.Missing.the-variants.{Nothing, Leading, Trailing}
 use Rattle.reading.specs.Relation.{chars}
-use Rattle.reading.specs.Figures.{Behind, taking, wrong, fronts, isDigit, digitNext, isSign, Run, run, restored, fewest, figures}
+use Rattle.reading.specs.Figures.{taking, wrong, fronts, isDigit, digitNext, isSign, Run, run, restored, fewest, figures}
 use Rattle.reading.proofs.DigitRows.{worth}
 use Rattle.reading.proofs.RowsAhead.{is-digit}
 use Rattle.places.specs.Begins.{Digit}
 use Rattle.places.specs.Faults.{Miscounted, too-few, too-many}
-use Rattle.places.proofs.Steady.{Like, no-row, first-row, Refuses, Held, at-row, at-end, Goes, took, held}
+use Rattle.places.proofs.Steady.{Like, no-row, first-row, at-row, at-end, Goes, took, held}
 use Rattle.places.proofs.DigitLists.{digit-is, no-digit}
 
 -- ---- tests of the first row

@@ -1,7 +1,7 @@
 -- How the head and all blocks go: of a refused tape, what stands before the place, and that the rows to there are refused whatever follows.
 use Prim.Native.Nat.{ℕ, zero, suc, _+_, _≤_, _<_}
 use mathlib.Core.Path.{_≡_, refl, sym, ap, _∙_, subst}
-use mathlib.Core.Bool.{Bool, true, false, cond, false≢true}
+use mathlib.Core.Bool.{Bool, true, false, cond}
 use mathlib.Core.List.{List, [], _∷_, _++_, append-assoc}
 use native.Mathlib.Nat.{le-refl}
 use native.Mathlib.Omega.{arith}
@@ -13,12 +13,12 @@ use Rattle.rows.specs.Kept.{KeptRow}
 use Rattle.shorthand.specs.declared.Format.{Format}
 use Rattle.shorthand.specs.Facts.{Facts}
 use Rattle.reading.specs.declared.Block.{Block}
-use Rattle.reading.specs.Relation.{End, Blocked, Blocks, none, more, Program, program, chars}
+use Rattle.reading.specs.Relation.{End, Blocks, none, more, Program, program}
 use Rattle.reading.specs.Figures.{Behind, taking, wrong, fronts, behind, ended}
-use Rattle.reading.specs.Parse.{BlockRead, blockAt, headAt, Entry, entry, blocksAt}
+use Rattle.reading.specs.Parse.{BlockRead, blockAt, headAt, entry, blocksAt}
 use Rattle.reading.specs.Answers.{programAt}
 use Rattle.reading.proofs.BlockTakes.{block-some}
-use Rattle.places.proofs.Steady.{Like, no-row, first-row, Refuses, refuses-bind, Held, at-row, at-end, held-after, Goes, took, held, goes-after, goes-map}
+use Rattle.places.proofs.Steady.{Like, first-row, Refuses, refuses-bind, Held, at-row, at-end, held-after, Goes, took, held, goes-after, goes-map}
 use Rattle.places.proofs.BlockStops.{alone, EndStop, ended-goes, BlockStop, SomeBlock, block-goes}
 
 -- ---- the head

@@ -1,11 +1,11 @@
 -- The theorem: of every tape that the fourth stage refuses, the number and the place say what `Refusal` says of the rows.
-use Prim.Native.Nat.{ℕ, _≤_, _<_}
+use Prim.Native.Nat.{ℕ, _≤_}
 use mathlib.Core.Path.{_≡_, refl, sym, ap, _∙_, subst}
-use mathlib.Core.List.{List, [], _∷_, _++_, append-nil, append-assoc, map}
+use mathlib.Core.List.{List, [], _∷_, _++_, append-assoc, map}
 use native.Mathlib.Omega.{arith}
 use lib.ListN.{length, length-map, length-replicate}
 use lib.Dec.{T}
-use Rattle.rows.specs.Answer.{Answer, taken, refused}
+use Rattle.rows.specs.Answer.{refused}
 use Rattle.rows.specs.Kept.{KeptRow}
 use Rattle.rows.specs.Passes.{Every}
 use Rattle.speeds.specs.Meaning.{secondZero}

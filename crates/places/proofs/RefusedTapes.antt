@@ -1,7 +1,7 @@
 -- The theorem for whole tapes: what the answer of reading, refused by 8 to 14, says of the tape.
 use Prim.Native.Nat.{ℕ, _≤_}
 use mathlib.Core.Path.{_≡_, refl}
-use mathlib.Core.Logic.{inl, inr, ⊎-elim}
+use mathlib.Core.Logic.{⊎-elim}
 use mathlib.Core.Bool.{Bool, true, false, cond}
 use mathlib.Core.List.{List}
 use native.Mathlib.Omega.{arith}
@@ -13,14 +13,12 @@ use Rattle.rows.specs.declared.Found.{Found}
 use Rattle.rows.specs.declared.Found.the-variants.{Nowhere, At}
 use Rattle.rows.specs.declared.Side.the-variants.{Outside}
 use Rattle.rows.specs.Kept.{kept}
-use Rattle.rows.specs.Passes.{Passes}
 use Rattle.rows.proofs.Judged.{clean-passes}
 use Rattle.shorthand.specs.declared.Format.{Format}
 use Rattle.shorthand.specs.Parse.{parsed}
 use Rattle.shorthand.proofs.Accepted.{sound}
 use Rattle.shorthand.proofs.Fairness.{lawful-facts}
 use Rattle.shorthand.proofs.Refusals.{refusals}
-use Rattle.reading.specs.Parse.{Entry}
 use Rattle.reading.specs.Answers.{programAt, read, readUnder}
 use Rattle.places.specs.Faults.{RefusalOf}
 use Rattle.places.proofs.RefusedRows.{refused-rows}

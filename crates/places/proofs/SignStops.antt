@@ -1,5 +1,5 @@
 -- How the sign right after an address goes, and with the figures behind it.
-use Prim.Native.Nat.{ℕ, _<_}
+use Prim.Native.Nat.{ℕ}
 use mathlib.Core.Path.{_≡_, refl, sym, ap, _∙_, subst}
 use mathlib.Core.Logic.{_⊎_, inl, inr}
 use mathlib.Core.Bool.{Bool, true, false, cond, false≢true}
@@ -9,20 +9,18 @@ use lib.ListN.{length}
 use lib.IntN.{ℤ}
 use lib.Dec.{eqb}
 use borrow.Author.Tests.{eqb-true}
-use Rattle.rows.specs.Answer.{Answer, taken, refused, _>>=_}
+use Rattle.rows.specs.Answer.{Answer, refused, _>>=_}
 use Rattle.rows.specs.Kept.{KeptRow}
-use Rattle.rows.specs.Passes.{Every}
 use Rattle.shorthand.specs.declared.Kind.{Kind}
 use Rattle.shorthand.specs.Layout.{Sign, barred, required, optional, signOf, width}
 use Rattle.reading.specs.Relation.{Signed, never, plus, minus, plus-stands, minus-stands, plus-missing, chars}
-use Rattle.reading.specs.Figures.{Behind, taking, isSign, mayStand, mayMiss, fewest, figures, signed}
+use Rattle.reading.specs.Figures.{Behind, taking, isSign, mayStand, mayMiss, figures, signed}
 use Rattle.reading.specs.Parse.{missingOf}
 use Rattle.reading.proofs.ReadData.{either, SignRows}
 use Rattle.reading.proofs.RowsAhead.{digit-no-sign}
 use Rattle.reading.proofs.Signs.{sign}
-use Rattle.places.specs.Begins.{Digit}
-use Rattle.places.specs.Faults.{Miscounted, SignRow, SignFault, barred-sign, missing-sign}
-use Rattle.places.proofs.Steady.{Like, no-row, first-row, Refuses, Held, at-row, at-end, Goes, took, held, goes-map, goes-bind}
+use Rattle.places.specs.Faults.{SignRow, SignFault, barred-sign, missing-sign}
+use Rattle.places.proofs.Steady.{Like, first-row, Refuses, at-row, at-end, Goes, took, held, goes-map, goes-bind}
 use Rattle.places.proofs.FigureStops.{Figured, signNext, FigureStop, figures-go}
 
 sign-is : (c : ℕ) → isSign c ≡ true → SignRow c

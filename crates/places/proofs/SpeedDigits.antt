@@ -2,8 +2,8 @@
 use Prim.Native.Nat.{ℕ, zero, suc, _+_, _-_, _*_, _%_, _^_, _≤_, _<_}
 use mathlib.Core.Path.{_≡_, refl, sym, ap, _∙_, subst}
 use mathlib.Core.Logic.{_⊎_, inl, inr}
-use mathlib.Core.Bool.{Bool, true, false, _&&_, not, cond}
-use mathlib.Core.List.{List, [], _∷_, _++_, append-nil, append-assoc}
+use mathlib.Core.Bool.{Bool, true, false, _&&_, cond}
+use mathlib.Core.List.{List, [], _∷_, _++_, append-nil}
 use native.Mathlib.Nat.{mul-le-mul-right, one-mul, pow-succ', add-zero, one-le-pow, zero-lt-suc}
 use native.Mathlib.Omega.{arith}
 use lib.Arith.{digits-mod, digits-lt}
@@ -17,7 +17,7 @@ use Rattle.reading.specs.Relation.{digits, zeros}
 use Rattle.reading.proofs.Runs.{digits-front, digits-leading}
 use Rattle.places.specs.Begins.{Digit}
 use Rattle.places.specs.Faults.{Spoilt}
-use Rattle.places.proofs.DigitLists.{every-append, zeros-digit, coded, padded-length}
+use Rattle.places.proofs.DigitLists.{every-append, zeros-digit, coded}
 
 and-false : (b : Bool) → (b && false) ≡ false
 and-false true = refl

@@ -1,14 +1,13 @@
 -- A tape cut at a kept row: what stands before it is well formed, and its kept rows are those before that row.
-use Prim.Native.Nat.{ℕ, zero, suc, _+_, _≤_, _<_}
+use Prim.Native.Nat.{ℕ, zero, suc, _+_}
 use mathlib.Core.Path.{_≡_, refl, sym, ap, _∙_, subst}
-use mathlib.Core.Bool.{Bool, true, false, _||_, not, cond}
+use mathlib.Core.Bool.{Bool, true, false, cond}
 use mathlib.Core.List.{List, [], _∷_, _++_, append-assoc}
 use native.Mathlib.Nat.{add-zero, add-suc, suc-add}
 use native.Mathlib.Omega.{arith}
 use lib.ListN.{length, length-append}
-use lib.Dec.{eqb}
 use Rattle.rows.specs.Row.{character, among}
-use Rattle.rows.specs.Kept.{KeptRow, within, stays, keptFrom}
+use Rattle.rows.specs.Kept.{KeptRow, stays, keptFrom}
 use Rattle.rows.specs.ControlOut.{Remark, empty, more, WellFormed, end, row, remark}
 use Rattle.rows.proofs.Formed.{not-among}
 

@@ -1,15 +1,13 @@
 -- The theorem on the tape itself: which of its beginnings could still become an accepted tape, and with which row that ends.
-use Prim.Native.Nat.{ℕ, zero, suc, _+_, _≤_, _<_, zero-le, suc-le-suc}
+use Prim.Native.Nat.{ℕ, suc, _+_, _≤_, _<_, zero-le, suc-le-suc}
 use mathlib.Core.Path.{_≡_, refl, sym, ap, _∙_, subst}
 use mathlib.Core.Bool.{false}
 use mathlib.Core.List.{List, [], _∷_, _++_, append-assoc, map}
-use native.Mathlib.Nat.{le-refl, le-trans}
 use native.Mathlib.Omega.{arith}
 use lib.ListN.{length, length-append, length-map, take}
 use lib.Seq.{take-at}
 use lib.Dec.{lit≤}
 use Rattle.rows.specs.Answer.{refused}
-use Rattle.rows.specs.Stages.{limit}
 use Rattle.rows.specs.Kept.{KeptRow, keptFrom, kept}
 use Rattle.rows.specs.ControlOut.{WellFormed, end, row}
 use Rattle.rows.specs.Passes.{Every, Passes}
@@ -21,7 +19,7 @@ use Rattle.shorthand.specs.Spell.{spell}
 use Rattle.shorthand.proofs.Accepted.{one-format}
 use Rattle.shorthand.proofs.Fairness.{lawful-facts}
 use Rattle.reading.specs.declared.Block.{Block}
-use Rattle.reading.specs.Relation.{End, lf, cr-lf, Blocks, none, more, Program, program, chars, TapeOf}
+use Rattle.reading.specs.Relation.{End, lf, cr-lf, Blocks, none, more, Program, program, chars}
 use Rattle.reading.specs.Front.{Rising, rise}
 use Rattle.reading.specs.Answers.{readUnder}
 use Rattle.reading.proofs.Outcomes.{chars-append}
@@ -32,7 +30,7 @@ use Rattle.punching.proofs.PunchedRows.{Bare, every-append, block-bare}
 use Rattle.punching.proofs.PunchedTapes.{chars-punched, rows-pass}
 use Rattle.punching.proofs.Appended.{formed-append, kept-append}
 use Rattle.places.specs.Begins.{Begins}
-use Rattle.places.specs.Faults.{EndDue, Misfit, Refusal, at-row, at-cr, at-address, at-length, RefusalOf}
+use Rattle.places.specs.Faults.{EndDue, Misfit, Refusal, at-row, at-cr, at-address, at-length}
 use Rattle.places.specs.Tapes.{Opens, Shuts, TapePlace, first-wrong, cr-alone, unsaid, ended}
 use Rattle.places.proofs.Told.{item-widths}
 use Rattle.places.proofs.RefusedTapes.{tape-refused}

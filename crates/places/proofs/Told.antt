@@ -12,10 +12,10 @@ use Rattle.speeds.specs.Meaning.{secondZero}
 use Rattle.shorthand.specs.declared.Kind.{Kind}
 use Rattle.shorthand.specs.declared.Item.{Item}
 use Rattle.shorthand.specs.declared.Format.{Format}
-use Rattle.shorthand.specs.Layout.{signOf, width, itemsOf}
+use Rattle.shorthand.specs.Layout.{width, itemsOf}
 use Rattle.shorthand.specs.Facts.{Widths, Fair, none, more, Facts}
 use Rattle.reading.specs.declared.Block.{Block}
-use Rattle.reading.specs.Relation.{digits, Signed, End, lf, cr-lf, skipRows, Blocks, Program, program}
+use Rattle.reading.specs.Relation.{digits, End, lf, cr-lf, skipRows, Blocks, Program, program}
 use Rattle.reading.specs.Figures.{fewest}
 use Rattle.reading.specs.Parse.{missingOf}
 use Rattle.reading.proofs.Signs.{sign}
@@ -23,13 +23,13 @@ use Rattle.places.specs.Begins.{Digit, Begins, Due}
 use Rattle.places.specs.Faults as told
 use Rattle.places.specs.Faults.{Miscounted, too-few, too-many, EndDue, of-head, of-block, SignRow, Misfit, Cut, in-head, SpeedDue, Spoilt}
 use Rattle.places.proofs.DigitLists.{fewest-most}
-use Rattle.places.proofs.FigureStops.{FigureStop, miscounted, cut}
-use Rattle.places.proofs.SignStops.{SignStop, fault, cut-sign, DataStop, in-sign, in-figures}
+use Rattle.places.proofs.FigureStops.{miscounted, cut}
+use Rattle.places.proofs.SignStops.{fault, cut-sign, in-sign, in-figures}
 use Rattle.places.proofs.WordStops.{WordStop, in-data, thirteen}
-use Rattle.places.proofs.WordsStops.{WordsStop, in-word, last-behind}
-use Rattle.places.proofs.BlockStops.{opened-some, EndStop, no-end, no-lf, cut-end, cut-lf, BlockStop, no-start, cut-start, in-number, in-words}
+use Rattle.places.proofs.WordsStops.{in-word, last-behind}
+use Rattle.places.proofs.BlockStops.{opened-some, no-end, no-lf, cut-end, cut-lf, BlockStop, no-start, cut-start, in-number, in-words}
 use Rattle.places.proofs.ProgramStops.{HeadStop, no-percent, cut-percent, ProgramStop}
-use Rattle.places.proofs.Ahead.{begins-from, closes-begins, head-begins, words-close, cr-begins, number-begins, start-begins, due-closes, Outlook, open-to, spoilt-for, outlook, address-begins, before-begins, figures-begin}
+use Rattle.places.proofs.Ahead.{closes-begins, head-begins, words-close, cr-begins, number-begins, start-begins, due-closes, Outlook, open-to, spoilt-for, outlook, address-begins, before-begins, figures-begin}
 
 -- ---- rows that end too soon
 

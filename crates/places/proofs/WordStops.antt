@@ -26,10 +26,10 @@ use Rattle.reading.specs.Parse.{missingOf, spoken, meant, dataAt, wordAt}
 use Rattle.reading.proofs.DigitRows.{worth, digits-length, digits-digit, digits-worth}
 use Rattle.reading.proofs.RowsAhead.{digit-no-sign}
 use Rattle.places.specs.Begins.{Digit}
-use Rattle.places.proofs.Steady.{Like, Refuses, refuses-bind, Held, at-row, held-after, Goes, took, held}
+use Rattle.places.proofs.Steady.{Refuses, refuses-bind, at-row, held-after, Goes, took, held}
 use Rattle.places.proofs.DigitLists.{coded, some-punched}
 use Rattle.places.proofs.SpeedDigits.{speed-is}
-use Rattle.places.proofs.FigureStops.{Figured, ranOf, suits, figures-are}
+use Rattle.places.proofs.FigureStops.{Figured, suits, figures-are}
 use Rattle.places.proofs.SignStops.{Given, DataStop, given, given-goes}
 
 -- ---- the parser as one step behind the sign and the figures

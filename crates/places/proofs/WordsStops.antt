@@ -14,11 +14,11 @@ use Rattle.shorthand.specs.Edition.{letters, anyOf}
 use Rattle.shorthand.specs.Facts.{Widths, Fair, none, more}
 use Rattle.reading.specs.declared.Word.{Word}
 use Rattle.reading.specs.Relation.{Worded, tab, Words, done, out, here, chars}
-use Rattle.reading.specs.Figures.{Behind, taking, fronts, isDigit, digitNext}
+use Rattle.reading.specs.Figures.{Behind, fronts, isDigit, digitNext}
 use Rattle.reading.specs.Parse.{wordAt, steps, stepped, consWord, wordsAt}
 use Rattle.places.specs.Begins.{Digit}
 use Rattle.places.specs.Faults.{lastOf}
-use Rattle.places.proofs.Steady.{Like, Goes, took, held, goes-after, goes-if, goes-map, goes-bind}
+use Rattle.places.proofs.Steady.{Like, Goes, took, goes-after, goes-if, goes-map, goes-bind}
 use Rattle.places.proofs.FigureStops.{fronts-like}
 use Rattle.places.proofs.WordStops.{Some, SomeWord, WordStop, word-goes}
 

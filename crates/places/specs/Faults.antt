@@ -1,5 +1,5 @@
 -- What a refusal of the fourth stage says, by its number and place, of the rows (document 01, "Refusal numbers" and its paragraph on order).
-use Prim.Native.Nat.{ℕ, _≤_, _<_}
+use Prim.Native.Nat.{ℕ, _<_}
 use mathlib.Core.Path.{_≡_}
 use mathlib.Core.Logic.{_⊎_}
 use mathlib.Core.Bool.{Bool, cond}
