@@ -17,6 +17,8 @@ use Rattle.shorthand.specs.Facts.{Widths}
 use Rattle.reading.specs.declared.Block.{Block}
 use Rattle.reading.specs.Record.{blockOf}
 use Rattle.reading.specs.Relation.{digits, zeros, Signed, never, plus, minus, plus-stands, minus-stands, plus-missing, number, speed, dimension, done, End, lf, cr-lf, skipRows, sequenceRows, Blocked, block, Blocks, none, more, Program, program}
+use Rattle.reading.proofs.ReadData.{barred-none}
+use Rattle.punching.proofs.PunchedTapes.{program-append}
 use Rattle.places.specs.Begins.{Digit, Begins, Closes, Due}
 use Rattle.places.specs.Faults.{numberRows, Spoilt}
 use Rattle.places.proofs.DigitLists.{zeros-digit, every-append, coded, padded, padded-length}
@@ -27,12 +29,8 @@ use Rattle.places.proofs.BlockStops.{Opened, opened, SomeBlock}
 
 -- ---- programs, one block longer
 
-blocks-then : {f : Format} {bs : List Block} {r : List ℕ} → Blocks f bs r → {b : Block} {x : List ℕ} → Blocked f b x → Blocks f (bs ++ (b ∷ [])) (r ++ x)
-blocks-then {f} none {b} {x} q = subst (λ l. Blocks f (b ∷ []) l) (append-nil x) (more q none)
-blocks-then {f} (more {r = r} {s = s} p k) {b} {x} q = rw (append-assoc r s x) (more p (blocks-then k q))
-
-pub program-then : {f : Format} {bs : List Block} {h : List ℕ} → Program f bs h → {b : Block} {x : List ℕ} → Blocked f b x → Program f (bs ++ (b ∷ [])) (h ++ x)
-program-then (program {e = e} {r = r} end k) {b} {x} q = rw (append-assoc e r x) (program end (blocks-then k q))
+program-then : {f : Format} {bs : List Block} {h : List ℕ} → Program f bs h → {b : Block} {x : List ℕ} → Blocked f b x → Program f (bs ++ (b ∷ [])) (h ++ x)
+program-then {f} p {b} {x} q = program-append p (subst (λ l. Blocks f (b ∷ []) l) (append-nil x) (more q none))
 
 pub head-begins : {f : Format} → Begins f (37 ∷ [])
 head-begins = ([], 10 ∷ [], program lf none)
@@ -96,9 +94,6 @@ resigned plus-stands k = (pos k, plus-stands)
 resigned minus-stands k = (negℤ (pos k), minus-stands)
 resigned plus-missing k = (pos k, plus-missing)
 
-barred-empty : {m : ℕ} {z : ℤ} {s : List ℕ} → Signed m barred z s → s ≡ []
-barred-empty never = refl
-
 -- an address, a sign and digits: some digits behind them make a word, or they are spoilt digits of a speed
 pub data Outlook (it : Item) (s ds : List ℕ) : Type 0 where
   open-to : (more : List ℕ) → Some it (it .letter ∷ (s ++ (ds ++ more))) → Outlook it s ds
@@ -107,12 +102,12 @@ pub data Outlook (it : Item) (s ds : List ℕ) : Type 0 where
 outlook-of : (l m : ℕ) (k : Kind) {z : ℤ} {s : List ℕ} → Widths k → Signed m (signOf k) z s → (ds : List ℕ) → Every Digit ds → length ds ≤ width k → Outlook (record { letter = l; kind = k }) s ds
 outlook-of l m (Plain n) w g ds all most =
     let p = padded Nothing n ds all (w .0) most in
-    open-to (zeros (n - length ds)) (rw (barred-empty g) (stands _ (number (p .1))))
+    open-to (zeros (n - length ds)) (rw (barred-none g) (stands _ (number (p .1))))
 outlook-of l m (Kind.Speed k) {s = s} w g ds all most = go (saved k (w .0) (w .1) ds all most)
   where
     go : ((more : List ℕ) × Means k (w .0) (w .1) (ds ++ more)) ⊎ Spoilt ds → Outlook (record { letter = l; kind = Kind.Speed k }) s ds
-    go (inl m) = open-to (m .0) (rw (barred-empty g, m .1 .3) (stands _ (speed (m .1 .0) (m .1 .2))))
-    go (inr h) = spoilt-for refl (barred-empty g) h
+    go (inl m) = open-to (m .0) (rw (barred-none g, m .1 .3) (stands _ (speed (m .1 .0) (m .1 .2))))
+    go (inr h) = spoilt-for refl (barred-none g) h
 outlook-of l m (Kind.Dimension d) w g ds all most =
     let p = padded (d .missing) (d .before + d .after) ds all (w .2) most in
     open-to (zeros (d .before + d .after - length ds)) (stands _ (dimension (resigned g (p .0) .1) (p .1)))

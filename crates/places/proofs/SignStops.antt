@@ -1,48 +1,28 @@
 -- How the sign right after an address goes, and with the figures behind it.
 use Prim.Native.Nat.{ℕ}
 use mathlib.Core.Path.{_≡_, refl, sym, ap, _∙_, subst}
-use mathlib.Core.Logic.{_⊎_, inl, inr}
+use mathlib.Core.Logic.{inl, inr}
 use mathlib.Core.Bool.{Bool, true, false, cond, false≢true}
 use mathlib.Core.List.{List, [], _∷_, _++_, append-nil}
 use native.Mathlib.Omega.{arith}
 use lib.ListN.{length}
 use lib.IntN.{ℤ}
 use lib.Dec.{eqb}
-use borrow.Author.Tests.{eqb-true}
 use Rattle.rows.specs.Answer.{Answer, refused, _>>=_}
 use Rattle.rows.specs.Kept.{KeptRow}
 use Rattle.shorthand.specs.declared.Kind.{Kind}
 use Rattle.shorthand.specs.Layout.{Sign, barred, required, optional, signOf, width}
-use Rattle.reading.specs.Relation.{Signed, never, plus, minus, plus-stands, minus-stands, plus-missing, chars}
+use Rattle.reading.specs.Relation.{Signed, chars}
 use Rattle.reading.specs.Figures.{Behind, taking, isSign, mayStand, mayMiss, figures, signed}
 use Rattle.reading.specs.Parse.{missingOf}
-use Rattle.reading.proofs.ReadData.{either, SignRows}
+use Rattle.reading.proofs.ReadData.{SignRows, sign-stands, sign-missing, sign-is}
 use Rattle.reading.proofs.RowsAhead.{digit-no-sign}
 use Rattle.reading.proofs.Signs.{sign}
-use Rattle.places.specs.Faults.{SignRow, SignFault, barred-sign, missing-sign}
+use Rattle.places.specs.Faults.{SignFault, barred-sign, missing-sign}
 use Rattle.places.proofs.Steady.{Like, first-row, Refuses, at-row, at-end, Goes, took, held, goes-map, goes-bind}
 use Rattle.places.proofs.FigureStops.{Figured, signNext, FigureStop, figures-go}
 
-sign-is : (c : ℕ) → isSign c ≡ true → SignRow c
-sign-is c e = go (either (eqb c 43) (eqb c 45) e)
-  where
-    go : (eqb c 43 ≡ true) ⊎ (eqb c 45 ≡ true) → SignRow c
-    go (inl h) = inl (eqb-true c 43 h)
-    go (inr h) = inr (eqb-true c 45 h)
-
 -- ---- the sign
-
-sign-stands : (s : Sign) (c : ℕ) → mayStand s ≡ true → SignRow c → SignRows s (eqb c 45) (c ∷ [])
-sign-stands barred c may e m = absurd (false≢true may)
-sign-stands required c may (inl e) m = rw e plus
-sign-stands required c may (inr e) m = rw e minus
-sign-stands optional c may (inl e) m = rw e plus-stands
-sign-stands optional c may (inr e) m = rw e minus-stands
-
-sign-missing : (s : Sign) → mayMiss s ≡ true → SignRows s false []
-sign-missing barred may m = never
-sign-missing required may m = absurd (false≢true may)
-sign-missing optional may m = plus-missing
 
 sign-barred : (s : Sign) (c : ℕ) → mayStand s ≡ false → isSign c ≡ true → SignFault s c
 sign-barred barred c n e = barred-sign (sign-is c e)

@@ -3,13 +3,14 @@ use Prim.Native.Nat.{ℕ, zero, suc, _+_}
 use mathlib.Core.Path.{_≡_, refl, sym, ap, _∙_, subst}
 use mathlib.Core.Bool.{Bool, true, false, cond}
 use mathlib.Core.List.{List, [], _∷_, _++_, append-assoc}
-use native.Mathlib.Nat.{add-zero, add-suc, suc-add}
+use native.Mathlib.Nat.{add-zero}
 use native.Mathlib.Omega.{arith}
 use lib.ListN.{length, length-append}
 use Rattle.rows.specs.Row.{character, among}
 use Rattle.rows.specs.Kept.{KeptRow, stays, keptFrom}
-use Rattle.rows.specs.ControlOut.{Remark, empty, more, WellFormed, end, row, remark}
+use Rattle.rows.specs.ControlOut.{Remark, WellFormed, end, row, remark}
 use Rattle.rows.proofs.Formed.{not-among}
+use Rattle.punching.proofs.Appended.{past-remark}
 
 -- the rows u of t stand before the kept row r, and v behind it
 pub record CutAt (t : List ℕ) (i : ℕ) (b : List KeptRow) (r : KeptRow) : Type 0 where
@@ -23,13 +24,7 @@ pub record CutAt (t : List ℕ) (i : ℕ) (b : List KeptRow) (r : KeptRow) : Typ
   pub place : i + length u ≡ r .place
   pub kept : keptFrom false (i + length u) (c ∷ []) ≡ r ∷ []
 
--- past a remark and its ")" the kept rows are those of what follows
-past-remark : {r : List ℕ} → Remark r → (c : ℕ) → character c ≡ 41 → (t : List ℕ) (i : ℕ) → keptFrom true i (r ++ (c ∷ t)) ≡ keptFrom false (i + suc (length r)) t
-unfolding keptFrom
-past-remark empty c e t i = rw (e, add-suc, add-zero)
-past-remark (more {b = b} {r = r} h m) c e t i =
-    rw (not-among (character b) 41 (58 ∷ 37 ∷ []) h .0, past-remark m c e t (suc i), add-suc i (suc (length r)), suc-add)
-
+-- a control-out is passed by whole
 over-remark : (o : ℕ) {r : List ℕ} → character o ≡ 40 → Remark r → (c : ℕ) → character c ≡ 41 → (t : List ℕ) (i : ℕ)
     → keptFrom false i (o ∷ (r ++ (c ∷ t))) ≡ keptFrom false (suc i + suc (length r)) t
 unfolding keptFrom

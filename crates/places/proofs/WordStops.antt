@@ -7,7 +7,6 @@ use mathlib.Core.List.{List, [], _∷_, _++_}
 use native.Mathlib.Omega.{arith}
 use lib.ListN.{length, length-map}
 use lib.Dec.{T}
-use lib.IntN.{ℤ}
 use Rattle.rows.specs.Answer.{Answer, taken, refused, _>>=_}
 use Rattle.rows.specs.Kept.{KeptRow}
 use Rattle.rows.specs.Passes.{Every}
@@ -16,13 +15,14 @@ use Rattle.shorthand.specs.declared.Missing.the-variants.{Nothing}
 use Rattle.shorthand.specs.declared.Kind.{Kind}
 use Rattle.shorthand.specs.declared.Kind.the-variants.{Plain}
 use Rattle.shorthand.specs.declared.Item.{Item}
-use Rattle.shorthand.specs.Layout.{barred, signOf, width}
+use Rattle.shorthand.specs.Layout.{signOf, width}
 use Rattle.shorthand.specs.Facts.{Widths}
 use Rattle.reading.specs.declared.Value.{Value}
 use Rattle.reading.specs.declared.Word.{Word}
-use Rattle.reading.specs.Relation.{digits, Signed, never, Data, number, speed, dimension, Worded, word, chars}
+use Rattle.reading.specs.Relation.{digits, Data, number, speed, dimension, Worded, word, chars}
 use Rattle.reading.specs.Figures.{Behind, taking, wrong, digitNext, figures, signed}
 use Rattle.reading.specs.Parse.{missingOf, spoken, meant, dataAt, wordAt}
+use Rattle.reading.proofs.ReadData.{barred-none}
 use Rattle.reading.proofs.DigitRows.{worth, digits-length, digits-digit, digits-worth}
 use Rattle.reading.proofs.RowsAhead.{digit-no-sign}
 use Rattle.places.specs.Begins.{Digit}
@@ -56,9 +56,6 @@ word-is len it r l =
     (λ x. taking (record { letter = it .letter; value = x .value }) (x .rest))
 
 -- ---- what was given stands as a word
-
-barred-none : {m : ℕ} {z : ℤ} {s : List ℕ} → Signed m barred z s → s ≡ []
-barred-none never = refl
 
 full-digits : (j m : ℕ) (u : List ℕ) {rest : List KeptRow} → Figured Nothing j m u rest → (m < 10 ^ j) × (u ≡ digits j m)
 full-digits j m u h =

@@ -1,38 +1,26 @@
 -- How the words of a block go, with tabs and without.
 use Prim.Native.Nat.{ℕ, _<_}
 use mathlib.Core.Path.{_≡_, refl, sym, ap, _∙_, subst}
-use mathlib.Core.Bool.{Bool, true, false, _||_, cond, false≢true}
+use mathlib.Core.Bool.{Bool, true, false, cond, false≢true}
 use mathlib.Core.List.{List, [], _∷_, _++_, append-nil, append-assoc, List·Memᴰ, List·Memᴰ·head, List·Memᴰ·tail}
 use native.Mathlib.Omega.{arith}
 use lib.ListN.{length}
-use lib.Dec.{T, eqb}
 use borrow.Author.Tests.{eqb-true}
 use Rattle.rows.specs.Answer.{Answer, _>>=_}
 use Rattle.rows.specs.Kept.{KeptRow}
 use Rattle.shorthand.specs.declared.Item.{Item}
-use Rattle.shorthand.specs.Edition.{letters, anyOf}
+use Rattle.shorthand.specs.Edition.{letters}
 use Rattle.shorthand.specs.Facts.{Widths, Fair, none, more}
 use Rattle.reading.specs.declared.Word.{Word}
 use Rattle.reading.specs.Relation.{Worded, tab, Words, done, out, here, chars}
 use Rattle.reading.specs.Figures.{Behind, fronts, isDigit, digitNext}
 use Rattle.reading.specs.Parse.{wordAt, steps, stepped, consWord, wordsAt}
+use Rattle.reading.proofs.WordsTake.{fails}
 use Rattle.places.specs.Begins.{Digit}
 use Rattle.places.specs.Faults.{lastOf}
 use Rattle.places.proofs.Steady.{Like, Goes, took, goes-after, goes-if, goes-map, goes-bind}
 use Rattle.places.proofs.FigureStops.{fronts-like}
 use Rattle.places.proofs.WordStops.{Some, SomeWord, WordStop, word-goes}
-
--- ---- letters are no digits
-
-one-fails : (p : ℕ → Bool) (ls : List ℕ) (c : ℕ) → T (anyOf (λ l. eqb l c) ls) → anyOf p ls ≡ false → p c ≡ false
-one-fails p [] c t h = absurd t
-one-fails p (l ∷ ls) c t h = go (eqb l c) refl (p l) refl t h (one-fails p ls c)
-  where
-    go : (x : Bool) → eqb l c ≡ x → (y : Bool) → p l ≡ y → T (x || anyOf (λ k. eqb k c) ls) → (y || anyOf p ls) ≡ false
-        → (T (anyOf (λ k. eqb k c) ls) → anyOf p ls ≡ false → p c ≡ false) → p c ≡ false
-    go x e true f t h rest = absurd (false≢true (sym h))
-    go true e false f t h rest = ap p (sym (eqb-true l c e)) ∙ f
-    go false e false f t h rest = rest t h
 
 -- ---- where a word is due
 
@@ -139,7 +127,7 @@ words-go len tabs (more {it} {its} known widths once fair) rs =
     (λ e. let st = step tabs rs e in
     goes-after {o = reached len tabs it its} (st .rows) (st .split) (λ l h. ap (reached len tabs it its) (st .over l))
     (rw (st .is)
-    (goes-if (fronts (it .letter)) (fronts-like (it .letter) (one-fails isDigit letters (it .letter) known refl)) (stepped tabs rs)
+    (goes-if (fronts (it .letter)) (fronts-like (it .letter) (fails isDigit letters (it .letter) known refl)) (stepped tabs rs)
     (λ f. goes-bind (goes-map (λ a u l h. h) (λ n b ds w h. in-word it (tab tabs) due-first h) (word-fronted len it widths (stepped tabs rs) f)) λ v s rest e h.
     goes-bind (goes-map (λ a u l k. k) (λ n. later-here n (chars s) (h .0)) (words-go len tabs fair rest)) λ ws u rest₂ e k.
     took [] refl

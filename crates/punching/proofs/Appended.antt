@@ -33,7 +33,7 @@ passes-append {t} {u} p q h =
 -- ---- kept rows
 
 -- past a remark and its ")" the kept rows are those of what follows
-past-remark : {r : List ℕ} → Remark r → (c : ℕ) → character c ≡ 41 → (t : List ℕ) (i : ℕ) → keptFrom true i (r ++ (c ∷ t)) ≡ keptFrom false (i + suc (length r)) t
+pub past-remark : {r : List ℕ} → Remark r → (c : ℕ) → character c ≡ 41 → (t : List ℕ) (i : ℕ) → keptFrom true i (r ++ (c ∷ t)) ≡ keptFrom false (i + suc (length r)) t
 unfolding keptFrom
 past-remark empty c e t i = rw (e, add-suc, add-zero)
 past-remark (more {b = b} {r = r} h m) c e t i =

@@ -30,22 +30,22 @@ either false b e = inr e
 abbrev pub SignRows : Sign → Bool → List ℕ → Type 0
 SignRows s negative r = (m : ℕ) → Signed m s (signedValue negative m) r
 
-sign-stands : (s : Sign) (c : ℕ) → mayStand s ≡ true → (c ≡ 43) ⊎ (c ≡ 45) → SignRows s (eqb c 45) (c ∷ [])
+pub sign-stands : (s : Sign) (c : ℕ) → mayStand s ≡ true → (c ≡ 43) ⊎ (c ≡ 45) → SignRows s (eqb c 45) (c ∷ [])
 sign-stands barred c may e m = absurd (false≢true may)
 sign-stands required c may (inl e) m = rw e plus
 sign-stands required c may (inr e) m = rw e minus
 sign-stands optional c may (inl e) m = rw e plus-stands
 sign-stands optional c may (inr e) m = rw e minus-stands
 
-sign-missing : (s : Sign) → mayMiss s ≡ true → SignRows s false []
+pub sign-missing : (s : Sign) → mayMiss s ≡ true → SignRows s false []
 sign-missing barred may m = never
 sign-missing required may m = absurd (false≢true may)
 sign-missing optional may m = plus-missing
 
-barred-none : {m : ℕ} {z : ℤ} {r : List ℕ} → Signed m barred z r → r ≡ []
+pub barred-none : {m : ℕ} {z : ℤ} {r : List ℕ} → Signed m barred z r → r ≡ []
 barred-none never = refl
 
-sign-is : (c : ℕ) → isSign c ≡ true → (c ≡ 43) ⊎ (c ≡ 45)
+pub sign-is : (c : ℕ) → isSign c ≡ true → (c ≡ 43) ⊎ (c ≡ 45)
 sign-is c e = go (either (eqb c 43) (eqb c 45) e)
   where
     go : (eqb c 43 ≡ true) ⊎ (eqb c 45 ≡ true) → (c ≡ 43) ⊎ (c ≡ 45)

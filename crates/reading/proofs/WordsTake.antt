@@ -25,7 +25,7 @@ neither true b e = let z : _≡_ {A = ℕ} 0 1 = cc in absurd (omega arith)
 neither false b e = (refl, e)
 
 -- a test that fails on every letter fails on each
-fails : (p : ℕ → Bool) (ls : List ℕ) (c : ℕ) → T (anyOf (λ l. eqb l c) ls) → anyOf p ls ≡ false → p c ≡ false
+pub fails : (p : ℕ → Bool) (ls : List ℕ) (c : ℕ) → T (anyOf (λ l. eqb l c) ls) → anyOf p ls ≡ false → p c ≡ false
 fails p [] c t h = absurd t
 fails p (l ∷ ls) c t h = go (eqb l c) refl t (neither (p l) (anyOf p ls) h) (fails p ls c)
   where
