@@ -41,7 +41,7 @@ pub data EndStop (digit : Bool) (e n : ℕ) : ℕ → List ℕ → List ℕ → 
   cut-end : EndStop digit e n e [] [] []
   cut-lf : EndStop digit e n e (13 ∷ []) [] []
 
-module _ (len e n : ℕ) where
+module _ (len e n : ℕ) (other : n ≡ 13 → ⊥) where
   abbrev Ends : List KeptRow → Answer (Behind ℕ) → Type 0
   Ends rs x = Goes (ended len e n) len (λ p u l. End u) (EndStop (digitNext rs) e n) rs x
 
@@ -52,7 +52,7 @@ module _ (len e n : ℕ) where
       go : (b : Bool) → eqb (s .char) 10 ≡ b → Ends (r ∷ s ∷ rs) (cond b (taking (s .place) rs) (refused n (r .place)))
       go true z = took {a = s .place} (r ∷ s ∷ []) refl (rw (eqb-true (r .char) 13 y, eqb-true (s .char) 10 z) cr-lf) (λ l h. rw (x, y, z))
       go false z =
-          held (at-row [] [] (s ∷ []) rs r refl tt (subst (λ c. EndStop (isDigit (r .char)) e n n [] [] (c ∷ s .char ∷ [])) (sym (eqb-true (r .char) 13 y)) (no-lf (eqb-false (s .char) 10 z)))
+          held (at-row [] [] (s ∷ []) rs r refl tt (subst (λ c. EndStop (isDigit (r .char)) e n n [] [] (c ∷ s .char ∷ [])) (sym (eqb-true (r .char) 13 y)) (no-lf (eqb-false (s .char) 10 z))) (λ h. absurd (other h))
           (λ es l h k. alone (ended len e n) r (s ∷ []) (λ l. rw (x, y, z) tt) es l k))
 
   pub ended-goes : (rs : List KeptRow) → Ends rs (ended len e n rs)
@@ -64,7 +64,7 @@ module _ (len e n : ℕ) where
       go false x true y = cr-goes r x y rs
       go false x false y =
           rw (x, y)
-          (held (at-row [] [] [] rs r refl tt (no-end (eqb-false (r .char) 10 x) (eqb-false (r .char) 13 y) (no-digit (r .char))) (λ es l h k. alone (ended len e n) r [] (λ l. rw (x, y) tt) es l k)))
+          (held (at-row [] [] [] rs r refl tt (no-end (eqb-false (r .char) 10 x) (eqb-false (r .char) 13 y) (no-digit (r .char))) (λ h. absurd (other h)) (λ es l h k. alone (ended len e n) r [] (λ l. rw (x, y) tt) es l k)))
 
 -- ---- a block
 
@@ -112,7 +112,7 @@ module _ (f : Format) (facts : Facts f) (len : ℕ) (skip : Bool) where
   numbered-goes : (alignment : Bool) (rs : List KeptRow)
       → Goes (numbered len f skip alignment) len (λ b v l. SomeBlock f (fore alignment v)) (λ n b ds w. BlockStop f n (fore alignment b) ds w) rs (numbered len f skip alignment rs)
   numbered-goes alignment rs =
-      goes-bind (goes-map (λ a u l h. h) (λ n b ds w h. in-number skip alignment h) (figures-go len 9 Nothing (f .sequence) rs)) λ m ds rest e h.
+      goes-bind (goes-map (λ a u l h. h) (λ n b ds w h. in-number skip alignment h) (figures-go len 9 Nothing (f .sequence) (λ e. omega arith) rs)) λ m ds rest e h.
       goes-bind
       (goes-map (λ a u l k. k)
       (λ n b es w q. subst (λ x. BlockStop f n x es w) (append-assoc (skipRows skip) (cond alignment 58 78 ∷ chars ds) b) (in-words (opens alignment m (chars ds) h) q))
@@ -121,7 +121,7 @@ module _ (f : Format) (facts : Facts f) (len : ℕ) (skip : Bool) where
       (goes-map (λ a v l z. z)
       (λ n b es w q. subst (λ x. BlockStop f n x es w) (append-assoc (skipRows skip) (cond alignment 58 78 ∷ chars ds) (chars u ++ b))
       (in-end (opens alignment m (chars ds) h) (k .0) (firm-after (fore alignment (chars ds)) u rest rest₂ e (h .apart) (k .1)) q))
-      (ended-goes len 14 10 rest₂)) λ p v rest₃ e z.
+      (ended-goes len 14 10 (λ e. omega arith) rest₂)) λ p v rest₃ e z.
       took [] refl (rw (append-nil (chars v)) (closed alignment m (chars ds) (chars u) (chars v) h (k .0) z)) (λ l e. refl)
 
   mark-is : (c : ℕ) → (eqb c 78 || eqb c 58) ≡ true → c ≡ cond (eqb c 58) 58 78
@@ -156,7 +156,7 @@ module _ (f : Format) (facts : Facts f) (len : ℕ) (skip : Bool) where
           (numbered-goes (eqb (r .char) 58) rs))
       go false e =
           let n = not-marked (r .char) e in
-          held (at-row {n = 9} [] [] [] rs r refl tt (rw (append-nil (skipRows skip)) (no-start skip (n .0, n .1, λ h. s (rw h))))
+          held (at-row {n = 9} [] [] [] rs r refl tt (rw (append-nil (skipRows skip)) (no-start skip (n .0, n .1, λ h. s (rw h)))) (λ h. absurd (omega arith))
           (λ es l h k. alone (sequenced len f skip) r [] (λ l. rw e tt) es l k))
 
 pub block-goes : (f : Format) → Facts f → (len : ℕ) (rs : List KeptRow) → Goes (blockAt len f) len (λ b u l. SomeBlock f u) (BlockStop f) rs (blockAt len f rs)

@@ -133,9 +133,9 @@ module _ (len x : ℕ) (z : Missing) (n : ℕ) where
       go false d true e k h = absurd (false≢true (sym h))
       go false d false e k h = too-few (omega (arith, length-map ds (λ s. s .char), leb-false (fewest z n) (length ds) e)) (no-digit (r .char) d)
 
-  goes-on : (rs ds rest : List KeptRow) → rs ≡ ds ++ rest → Every Digit (chars ds) → length ds ≤ n → (length ds ≡ n) ⊎ (digitNext rest ≡ false)
+  goes-on : (x ≡ 13 → ⊥) → (rs ds rest : List KeptRow) → rs ≡ ds ++ rest → Every Digit (chars ds) → length ds ≤ n → (length ds ≡ n) ⊎ (digitNext rest ≡ false)
       → (b : Bool) → suits z n ds rest ≡ b → Goes (figures len x z n) len (Figured z n) (FigureStop (signNext rs) x z n) rs (cond b (taking (restored z n (ranOf ds rest)) rest) (wrong len 14 x rest))
-  goes-on rs ds rest split all few why true e =
+  goes-on other rs ds rest split all few why true e =
       let p = and-eq-true-iff (leb (fewest z n) (length ds)) (not (digitNext rest)) .0 e in
       let c = length-map ds (λ s. s .char) in
       took ds split
@@ -148,15 +148,15 @@ module _ (len x : ℕ) (z : Missing) (n : ℕ) where
       })
       (λ l h. let d : digitNext l ≡ false = sym (digit-like rest l h) ∙ not-true (digitNext rest) (p .1) in
       figures-are ds l all few (inr d) ∙ rw (p .0, d, restored-any z n ds l rest))
-  goes-on rs ds [] split all few why false e =
+  goes-on other rs ds [] split all few why false e =
       let c = length-map ds (λ s. s .char) in
       held (at-end [] ds (split ∙ append-nil ds) all (cut {ds = chars ds} all (omega (arith, leb-false (fewest z n) (length ds) (and-true (leb (fewest z n) (length ds)) e)))))
     where
       and-true : (b : Bool) → (b && true) ≡ false → b ≡ false
       and-true true h = h
       and-true false h = refl
-  goes-on rs ds (r ∷ a) split all few why false e =
-      held (at-row [] ds [] a r split all (miscounted all (why-wrong ds r why e) (first-sign rs ds a r split))
+  goes-on other rs ds (r ∷ a) split all few why false e =
+      held (at-row [] ds [] a r split all (miscounted all (why-wrong ds r why e) (first-sign rs ds a r split)) (λ e. absurd (other e))
       (λ es l h k. let q : figures len x z n (es ++ (r ∷ l)) ≡ refused x (r .place) = figures-are es (r ∷ l) h (omega arith) (same es k why) ∙ rw (k, e) in
       rw q tt))
     where
@@ -164,8 +164,8 @@ module _ (len x : ℕ) (z : Missing) (n : ℕ) where
       same es k (inl h) = inl (k ∙ h)
       same es k (inr h) = inr h
 
-  pub figures-go : (rs : List KeptRow) → Goes (figures len x z n) len (Figured z n) (FigureStop (signNext rs) x z n) rs (figures len x z n rs)
-  figures-go rs =
+  pub figures-go : (x ≡ 13 → ⊥) → (rs : List KeptRow) → Goes (figures len x z n) len (Figured z n) (FigureStop (signNext rs) x z n) rs (figures len x z n rs)
+  figures-go other rs =
       let s = spread n rs in
       subst (λ y. Goes (figures len x z n) len (Figured z n) (FigureStop (signNext rs) x z n) rs y) (sym (ap (figures len x z n) (s .split) ∙ figures-are (s .ds) (s .rest) (s .all) (s .few) (s .why)))
-      (goes-on rs (s .ds) (s .rest) (s .split) (s .all) (s .few) (s .why) (suits z n (s .ds) (s .rest)) refl)
+      (goes-on other rs (s .ds) (s .rest) (s .split) (s .all) (s .few) (s .why) (suits z n (s .ds) (s .rest)) refl)

@@ -41,9 +41,9 @@ head-goes len (r ∷ rs) = go (eqb (r .char) 37) refl
     go true e =
         let m = eqb-true (r .char) 37 e in
         goes-after {o = ended len 8 8} (r ∷ []) refl (λ l h. ap (λ b. cond b (ended len 8 8 l) (refused 8 (r .place))) e)
-        (goes-map (λ a u l h. (u, h, rw m)) (λ n b ds w h. subst (λ c. HeadStop n (c ∷ b) ds w) (sym m) (in-end h)) (ended-goes len 8 8 rs))
+        (goes-map (λ a u l h. (u, h, rw m)) (λ n b ds w h. subst (λ c. HeadStop n (c ∷ b) ds w) (sym m) (in-end h)) (ended-goes len 8 8 (λ e. omega arith) rs))
     go false e =
-        held (at-row [] [] [] rs r refl tt (no-percent (eqb-false (r .char) 37 e))
+        held (at-row [] [] [] rs r refl tt (no-percent (eqb-false (r .char) 37 e)) (λ h. absurd (omega arith))
         (λ es l h k. alone (λ l. cond (fronts 37 l) (ended len 8 8 (behind l)) (wrong len 8 8 l)) r [] (λ l. rw e tt) es l k))
 
 -- ---- all blocks

@@ -1,6 +1,7 @@
 -- The theorem: of every tape that the fourth stage refuses, the number and the place say what `Refusal` says of the rows.
 use Prim.Native.Nat.{ℕ, _≤_}
 use mathlib.Core.Path.{_≡_, refl, sym, ap, _∙_, subst}
+use mathlib.Core.Bool.{false, false≢true}
 use mathlib.Core.List.{List, [], _∷_, _++_, append-assoc, map}
 use native.Mathlib.Omega.{arith}
 use lib.ListN.{length, length-map, length-replicate}
@@ -14,7 +15,9 @@ use Rattle.shorthand.specs.declared.Format.{Format}
 use Rattle.shorthand.specs.Facts.{Facts}
 use Rattle.reading.specs.declared.Block.{Block}
 use Rattle.reading.specs.Relation.{digits, zeros, Program, chars}
+use Rattle.reading.specs.Figures.{digitNext}
 use Rattle.reading.specs.Answers.{programAt}
+use Rattle.reading.proofs.RowsAhead.{is-digit}
 use Rattle.reading.proofs.Complete.{complete}
 use Rattle.reading.proofs.Outcomes.{chars-append}
 use Rattle.places.specs.Begins.{Digit, Begins}
@@ -103,11 +106,11 @@ module _ (f : Format) (facts : Facts f) (len : ℕ) (rs b es w a : List KeptRow)
       let up-to : chars b ++ (13 ∷ (s .0 .char ∷ [])) ≡ chars b ++ (chars es ++ (r .char ∷ chars w)) = rw (none, k, l, s .2) in
       at-cr b a r (s .0) whole due k (λ e. nlf (sym (s .2) ∙ e)) begins (unsaved es all refl _ up-to)
 
-  code-refused : (k c : ℕ) (it : Item) → chars es ≡ [] → r .char ≡ it .letter → chars w ≡ digits k c → SpeedDue f it k (chars b) → T (secondZero k c) → Begins f (chars b) → Refusal f len rs 13 (r .place)
-  code-refused k c it none l v due z begins =
+  code-refused : (k c : ℕ) (it : Item) → digitNext a ≡ false → chars es ≡ [] → r .char ≡ it .letter → chars w ≡ digits k c → SpeedDue f it k (chars b) → T (secondZero k c) → Begins f (chars b) → Refusal f len rs 13 (r .place)
+  code-refused k c it apart none l v due z begins =
       let whole : rs ≡ b ++ (r ∷ (w ++ a)) = split ∙ ap (λ d. b ++ (d ++ (r ∷ (w ++ a)))) (no-rows es none) in
       let up-to : chars b ++ chars (r ∷ w) ≡ chars b ++ (chars es ++ (r .char ∷ chars w)) = rw none in
-      at-address c b w a r whole due l v z begins (unsaved es all refl _ up-to)
+      at-address c b w a r whole due l v z (λ d o q h. false≢true (sym apart ∙ ap digitNext q ∙ is-digit (d .char) h)) begins (unsaved es all refl _ up-to)
 
   spoilt-refused : (k c : ℕ) (it : Item) (x : List ℕ) → chars b ≡ x ++ (it .letter ∷ []) → r .char ≡ c → chars w ≡ [] → SpeedDue f it k x → Spoilt (chars es) → length (chars es) ≤ k
       → Misfit f 11 (x ++ (it .letter ∷ chars es)) c → Refusal f len rs 11 (r .place)
@@ -125,25 +128,25 @@ module _ (f : Format) (facts : Facts f) (len : ℕ) (rs b es w a : List KeptRow)
       (zeros (length es), zeros-digit (length es), length-replicate (length es) 48, rw (p .of-left) (zeros-begin it (item-widths (facts .fair) (due .item)) x (due .due) (due .speed) (length es) (omega arith)))
       (λ o h j. unsaved (rowsOf o) (rw (chars-of o) h) (length-map o (λ c. record { place = 0; char = c }) ∙ j) _ (up-to o))
 
-  row-refused : {n : ℕ} {x ds v : List ℕ} → Told f n x ds v → chars b ≡ x → chars es ≡ ds → r .char ∷ chars w ≡ v → Refusal f len rs n (r .place)
-  row-refused (misfit {n = n} {c = c} {x = y} e m begins) eb ed ev =
+  row-refused : {n : ℕ} {x ds v : List ℕ} → Told f n x ds v → (n ≡ 13 → digitNext a ≡ false) → chars b ≡ x → chars es ≡ ds → r .char ∷ chars w ≡ v → Refusal f len rs n (r .place)
+  row-refused (misfit {n = n} {c = c} {x = y} e m begins) lone eb ed ev =
       let k : r .char ≡ c = cc in
       let l : chars w ≡ [] = cc in
       misfit-refused n c y (rw (eb, ed) (sym e)) k l m begins
-  row-refused (no-lf-behind {n} {c} due nlf begins) eb ed ev =
+  row-refused (no-lf-behind {n} {c} due nlf begins) lone eb ed ev =
       let k : r .char ≡ 13 = cc in
       let l : chars w ≡ c ∷ [] = cc in
       cr-refused n c ed k l (subst (EndDue f n) (sym eb) due) nlf (subst (λ y. Begins f (y ++ (13 ∷ []))) (sym eb) begins)
-  row-refused (code {k} {it} c due z begins) eb ed ev =
+  row-refused (code {k} {it} c due z begins) lone eb ed ev =
       let l : r .char ≡ it .letter = cc in
       let v : chars w ≡ digits k c = cc in
-      code-refused k c it ed l v (subst (λ y. SpeedDue f it k y) (sym eb) due) z (subst (Begins f) (sym eb) begins)
-  row-refused (short e s begins) eb ed ev = let z = ap length ev in absurd (omega arith)
-  row-refused (spoilt {k} {c} {it} {x = y} e due s few m) eb ed ev =
+      code-refused k c it (lone refl) ed l v (subst (λ y. SpeedDue f it k y) (sym eb) due) z (subst (Begins f) (sym eb) begins)
+  row-refused (short e s begins) lone eb ed ev = let z = ap length ev in absurd (omega arith)
+  row-refused (spoilt {k} {c} {it} {x = y} e due s few m) lone eb ed ev =
       let v : r .char ≡ c = cc in
       let l : chars w ≡ [] = cc in
       spoilt-refused k c it y (eb ∙ e) v l due (subst Spoilt (sym ed) s) (subst (λ d. length d ≤ k) (sym ed) few) (subst (λ d. Misfit f 11 (y ++ (it .letter ∷ d)) c) (sym ed) m)
-  row-refused (spoilt-short e due s h few c) eb ed ev = let z = ap length ev in absurd (omega arith)
+  row-refused (spoilt-short e due s h few c) lone eb ed ev = let z = ap length ev in absurd (omega arith)
 
 -- ---- refused at the length
 
@@ -178,5 +181,5 @@ refused-rows f facts len rs n p e = go (program-held f facts len rs n p e)
     no-program cs q = let c = complete f facts cs len rs q in let z : _≡_ {A = ℕ} 0 1 = cc (c .1) in absurd (omega arith)
 
     go : {n p : ℕ} → Held (λ l. Refuses (programAt len f l)) len (ProgramStop f) rs n p → Refusal f len rs n p
-    go (at-row b ds w a r split all is nay) = row-refused f facts len rs b ds w a r split all nay (program-told facts is) refl refl refl
+    go (at-row b ds w a r split all is lone nay) = row-refused f facts len rs b ds w a r split all nay (program-told facts is) lone refl refl refl
     go (at-end b ds split all is) = end-refused f facts len rs b ds split no-program (program-told facts is) refl refl refl

@@ -53,7 +53,7 @@ module _ (len : ℕ) (s : Sign) where
   signed-go (r ∷ rs) = go (isSign (r .char)) refl (mayStand s) refl (mayMiss s) refl
     where
       stops : (f : SignFault s (r .char)) → ((l : List KeptRow) → signed len s (r ∷ l) ≡ refused 12 (r .place)) → Goes (signed len s) len (SignTaken s) (SignStop s) (r ∷ rs) (refused 12 (r .place))
-      stops f e = held (at-row [] [] [] rs r refl tt (fault f) (λ es l h k. alone es l k))
+      stops f e = held (at-row [] [] [] rs r refl tt (fault f) (λ n. absurd (omega arith)) (λ es l h k. alone es l k))
         where
           alone : (es l : List KeptRow) → length es ≡ 0 → Refuses (signed len s (es ++ (r ∷ l)))
           alone [] l k = subst Refuses (sym (e l)) tt
@@ -88,5 +88,5 @@ given len k rs = signed len (signOf k) rs >>= λ s. figures len 11 (missingOf k)
 pub given-goes : (len : ℕ) (k : Kind) (rs : List KeptRow) → Goes (given len k) len (Given k) (DataStop k) rs (given len k rs)
 given-goes len k rs =
     goes-bind (goes-map (λ a u l h. h) (λ n b ds w h. in-sign h) (signed-go len (signOf k) rs)) λ neg s rest e g.
-    goes-bind (goes-map (λ a u l h. h) (λ n b ds w h. in-figures (g .0 0) (g .1) h) (figures-go len 11 (missingOf k) (width k) rest)) λ m ds rest₂ e h.
+    goes-bind (goes-map (λ a u l h. h) (λ n b ds w h. in-figures (g .0 0) (g .1) h) (figures-go len 11 (missingOf k) (width k) (λ e. omega arith) rest)) λ m ds rest₂ e h.
     took [] refl (record { sgn = chars s; ds = chars ds; split = rw append-nil; signs = g .0; figured = h }) (λ l e. refl)

@@ -10,7 +10,7 @@ use Rattle.rows.specs.Answer.{Answer, taken, refused, _>>=_}
 use Rattle.rows.specs.Kept.{KeptRow}
 use Rattle.rows.specs.Passes.{Every}
 use Rattle.reading.specs.Relation.{chars}
-use Rattle.reading.specs.Figures.{Behind, taking}
+use Rattle.reading.specs.Figures.{Behind, taking, digitNext}
 use Rattle.reading.proofs.Outcomes.{chars-append}
 use Rattle.places.specs.Begins.{Digit}
 
@@ -46,17 +46,17 @@ refuses-bind (taken a) f h = absurd h
 refuses-bind (refused n p) f h = tt
 
 -- what holds of a refusal of the rows rs: Q of its number, the rows before its place, the digits last of these apart, and the rows that decide;
--- No holds whatever stands behind those, and whatever the digits are
+-- No holds whatever stands behind those, and whatever the digits are; behind those of a 13 stands no further digit
 pub data Held (No : List KeptRow → Type 0) (len : ℕ) (Q : ℕ → List ℕ → List ℕ → List ℕ → Type 0) (rs : List KeptRow) : ℕ → ℕ → Type 0 where
-  at-row : {n : ℕ} (b ds w a : List KeptRow) (r : KeptRow) → rs ≡ b ++ (ds ++ (r ∷ (w ++ a))) → Every Digit (chars ds) → Q n (chars b) (chars ds) (chars (r ∷ w))
+  at-row : {n : ℕ} (b ds w a : List KeptRow) (r : KeptRow) → rs ≡ b ++ (ds ++ (r ∷ (w ++ a))) → Every Digit (chars ds) → Q n (chars b) (chars ds) (chars (r ∷ w)) → (n ≡ 13 → digitNext a ≡ false)
       → ((es l : List KeptRow) → Every Digit (chars es) → length es ≡ length ds → No (b ++ (es ++ (r ∷ (w ++ l))))) → Held No len Q rs n (r .place)
   at-end : {n : ℕ} (b ds : List KeptRow) → rs ≡ b ++ ds → Every Digit (chars ds) → Q n (chars b) (chars ds) [] → Held No len Q rs n len
 
 -- the rows u stand before those of a refusal
 pub held-after : {No Nay : List KeptRow → Type 0} {len : ℕ} {Q S : ℕ → List ℕ → List ℕ → List ℕ → Type 0} {rs rest : List KeptRow} {n q : ℕ} (u : List KeptRow) → rs ≡ u ++ rest
     → ((l : List KeptRow) → Like rest l → No l → Nay (u ++ l)) → ((n : ℕ) (b ds w : List ℕ) → Q n b ds w → S n (chars u ++ b) ds w) → Held No len Q rest n q → Held Nay len S rs n q
-held-after {Nay = Nay} {S = S} {rs = rs} u e f g (at-row {n} b ds w a r split all is nay) =
-    at-row {n = n} (u ++ b) ds w a r (e ∙ ap (λ l. u ++ l) split ∙ sym (append-assoc u b _)) all (rw (chars-append u b) (g n (chars b) (chars ds) (chars (r ∷ w)) is))
+held-after {Nay = Nay} {S = S} {rs = rs} u e f g (at-row {n} b ds w a r split all is lone nay) =
+    at-row {n = n} (u ++ b) ds w a r (e ∙ ap (λ l. u ++ l) split ∙ sym (append-assoc u b _)) all (rw (chars-append u b) (g n (chars b) (chars ds) (chars (r ∷ w)) is)) lone
     (λ es l h k. let o = b ++ (es ++ (r ∷ (w ++ l))) in
     subst Nay (sym (append-assoc u b (es ++ (r ∷ (w ++ l)))))
     (f o (subst (λ x. Like x o) (sym split) (like-after b (like-digits ds es (w ++ a) (w ++ l) r all h k))) (nay es l h k)))

@@ -159,7 +159,7 @@ module _ {e : ℕ} {s t : List ℕ} {f : Format} (lawful : Lawful e f) (spelt : 
       cr-alone (r .place) (rising-between b [] a cr r (rises q)) (in-tape lawful spelt passes (b ++ (cr ∷ [])) a r q₂)
       (opens-before lawful spelt passes (b ++ (cr ∷ [])) a r q₂ (subst (Begins f) (sym rows) h))
       (shuts-with lawful spelt passes (b ++ (cr ∷ [])) a r q₂ (λ k. nay (subst (Begins f) more-rows k)))
-  placed (at-address {k} {it} c b w a r q due l v z h nay) =
+  placed (at-address {k} {it} c b w a r q due l v z apart h nay) =
       let speeds : Widths (Kind.Speed k) = subst Widths (due .speed) (item-widths (lawful-facts lawful .fair) (due .item)) in
       let some : 0 < length w = omega (arith, length-map w (λ d. d .char), ap length v, digits-length k c, speeds .0) in
       let o = snoc w some in

@@ -157,7 +157,7 @@ module _ (len : ℕ) (it : Item) (w : Widths (it .kind)) (r : KeptRow) (addresse
           took {a = record { letter = it .letter; value = x }} (r ∷ u) (ap (λ l. r ∷ l) e) (subst (λ c. Some it (c ∷ chars u)) (sym addressed) s, g .figured .apart) (λ l h. word-is len it r (u ++ l) ∙ rw (t l h, q))
       go q (second {j} k small are zero) =
           held (at-row [] [] u rest r (ap (λ l. r ∷ l) e) tt
-          (subst (λ c. WordStop it 13 [] [] c) (sym (ap (λ c. c ∷ chars u) addressed ∙ ap (λ d. it .letter ∷ d) are)) (thirteen (y .1) k small zero))
+          (subst (λ c. WordStop it 13 [] [] c) (sym (ap (λ c. c ∷ chars u) addressed ∙ ap (λ d. it .letter ∷ d) are)) (thirteen (y .1) k small zero)) (λ n. g .figured .apart)
           (λ es l h n. alone es l n))
         where
           speeds : Widths (Kind.Speed j)

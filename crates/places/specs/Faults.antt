@@ -99,9 +99,10 @@ pub data Refusal (f : Format) (len : ℕ) (rs : List KeptRow) : ℕ → ℕ → 
   -- 8, 10 at a CR's own row: with it the rows begin a program's, and with the row behind it no more
   at-cr : {n : ℕ} (b a : List KeptRow) (cr r : KeptRow) → rs ≡ b ++ (cr ∷ (r ∷ a)) → EndDue f n (chars b) → cr .char ≡ 13 → (r .char ≡ 10 → ⊥)
       → Begins f (chars b ++ (13 ∷ [])) → (Begins f (chars b ++ (13 ∷ (r .char ∷ []))) → ⊥) → Refusal f len rs n (cr .place)
-  -- 13 at the address: the rows before it begin a program's, and up to the word's last digit no more
+  -- 13 at the address: the rows before it begin a program's, and up to the word's last digit no more; a further digit would be 11
   at-address : {k : ℕ} {it : Item} (c : ℕ) (b w a : List KeptRow) (r : KeptRow) → rs ≡ b ++ (r ∷ (w ++ a)) → SpeedDue f it k (chars b) → r .char ≡ it .letter → chars w ≡ digits k c
-      → T (secondZero k c) → Begins f (chars b) → (Begins f (chars b ++ chars (r ∷ w)) → ⊥) → Refusal f len rs 13 (r .place)
+      → T (secondZero k c) → ((d : KeptRow) (l : List KeptRow) → a ≡ d ∷ l → Digit (d .char) → ⊥) → Begins f (chars b) → (Begins f (chars b ++ chars (r ∷ w)) → ⊥)
+      → Refusal f len rs 13 (r .place)
   -- 8, 14 at the length: all rows begin a program's
   at-length : {n : ℕ} → Cut f n (chars rs) → Begins f (chars rs) → Refusal f len rs n len
   -- 11 before 13: the digits ds before the wrong row are past saving; other digits in their place begin a program's rows, and with the wrong row none do
