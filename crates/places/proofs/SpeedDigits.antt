@@ -1,19 +1,21 @@
 -- Digits of a speed: which further digits make a code that means one, or that none do.
-use Prim.Native.Nat.{ℕ, zero, suc, _+_, _-_, _*_, _%_, _^_, _≤_, _<_}
+use Prim.Native.Nat.{ℕ, _/_, zero, suc, _+_, _-_, _*_, _%_, _^_, _≤_, _<_}
 use mathlib.Core.Path.{_≡_, refl, sym, ap, _∙_, subst}
 use mathlib.Core.Logic.{_⊎_, inl, inr}
 use mathlib.Core.Bool.{Bool, true, false, _&&_, cond}
 use mathlib.Core.List.{List, [], _∷_, _++_, append-nil}
-use native.Mathlib.Nat.{mul-le-mul-right, one-mul, pow-succ', add-zero, one-le-pow, zero-lt-suc}
+use native.Mathlib.Nat.{div-add-mod', mod-lt, mul-le-mul-right, one-mul, pow-succ', add-zero, one-le-pow, zero-lt-suc}
 use native.Mathlib.Omega.{arith}
 use lib.Arith.{digits-mod, digits-lt}
 use lib.ListN.{length, length-append, length-replicate, replicate-append-replicate}
 use lib.Dec.{eqb, ltb, lit≤}
-use borrow.Author.Tests.{eqb-true, eqb-false, le-leb, lt-ltb, le-ltb}
+use borrow.Author.Tests.{ne-eqb, eqb-true, eqb-false, le-leb, lt-ltb, le-ltb}
 use Rattle.rows.specs.Answer.{taken, refused}
 use Rattle.rows.specs.Passes.{Every}
-use Rattle.speeds.specs.Meaning.{meaning, secondZero, speedFor}
-use Rattle.reading.specs.Relation.{digits, zeros}
+use Rattle.speeds.specs.Meaning.{codeLength, meaning, secondZero, speedFor}
+use Rattle.shorthand.specs.declared.Kind.{Kind}
+use Rattle.reading.specs.declared.Value.{Value}
+use Rattle.reading.specs.Relation.{digits, zeros, Data, speed}
 use Rattle.reading.proofs.Runs.{digits-front, digits-leading}
 use Rattle.places.specs.Begins.{Digit}
 use Rattle.places.specs.Faults.{Spoilt}
@@ -22,6 +24,9 @@ use Rattle.places.proofs.DigitLists.{every-append, zeros-digit, coded}
 and-false : (b : Bool) → (b && false) ≡ false
 and-false true = refl
 and-false false = refl
+
+zero-digits : (k : ℕ) → digits k 0 ≡ zeros k
+zero-digits k = ap (λ n. digits n 0) (sym (add-zero k)) ∙ digits-leading k 0 0 (lit≤ tt) ∙ append-nil (zeros k)
 
 module _ (k : ℕ) (low : 3 ≤ k) (high : k ≤ 5) where
   -- a code of k digits is refused only for its second digit
@@ -35,8 +40,7 @@ module _ (k : ℕ) (low : 3 ≤ k) (high : k ≤ 5) where
 
   zeros-mean : Means (zeros k)
   zeros-mean =
-      let e : digits k 0 ≡ zeros k = ap (λ n. digits n 0) (sym (add-zero k)) ∙ digits-leading k 0 0 (lit≤ tt) ∙ append-nil (zeros k) in
-      (0, meaning k 0, speed-is 0 (one-le-pow k 10 (zero-lt-suc 9)) ∙ rw (and-false (ltb (0 % 10 ^ (k - 1)) (10 ^ (k - 2)))), sym e)
+      (0, meaning k 0, speed-is 0 (one-le-pow k 10 (zero-lt-suc 9)) ∙ rw (and-false (ltb (0 % 10 ^ (k - 1)) (10 ^ (k - 2)))), sym (zero-digits k))
 
   -- a second digit over zero
   second-means : (d e : ℕ) (ds : List ℕ) → Digit d → Digit e → (e ≡ 48 → ⊥) → Every Digit ds → length ds + 2 ≡ k → Means (d ∷ e ∷ ds)
@@ -98,3 +102,39 @@ module _ (k : ℕ) (low : 3 ≤ k) (high : k ≤ 5) where
           zero-go : Every (λ c. c ≡ 48) (d ∷ e ∷ ds) ⊎ (Every (λ c. c ≡ 48) (d ∷ e ∷ ds) → ⊥) → ((more : List ℕ) × Means k low high ((d ∷ e ∷ ds) ++ more)) ⊎ Spoilt (d ∷ e ∷ ds)
           zero-go (inl h) = inl (more, subst (Means k low high) (sym (zeros-go h)) (zeros-mean k low high))
           zero-go (inr n) = inr (record { first = d; others = ds; second = rw (eqb-true e 48 y); some = n })
+
+-- ---- spoilt digits are past saving
+
+never-taken : (k c v : ℕ) → secondZero k c ≡ true → speedFor k c ≡ taken v → ⊥
+unfolding speedFor
+never-taken k c v z e = go (codeLength k && ltb c (10 ^ k)) (ap (λ b. cond (codeLength k && ltb c (10 ^ k)) (cond b (refused 13 0) (taken (meaning k c))) (refused 21 0)) (sym z) ∙ e)
+  where
+    go : (b : Bool) → cond b (refused 13 0) (refused 21 0) ≡ taken v → ⊥
+    go true e = let z : _≡_ {A = ℕ} 0 1 = cc in absurd (omega arith)
+    go false e = let z : _≡_ {A = ℕ} 0 1 = cc in absurd (omega arith)
+
+zeros-every : (ds o : List ℕ) (n : ℕ) → ds ++ o ≡ zeros n → Every (λ c. c ≡ 48) ds
+zeros-every [] o n e = tt
+zeros-every (d ∷ ds) o zero e = let z = ap length e in absurd (omega arith)
+zeros-every (d ∷ ds) o (suc n) e = (cc, zeros-every ds o n (cc))
+
+module _ (k : ℕ) (low : 3 ≤ k) where
+  second-zero : (d c : ℕ) (o : List ℕ) → d ∷ 48 ∷ o ≡ digits k c → (c ≡ 0 → ⊥) → secondZero k c ≡ true
+  second-zero d c o are some =
+      let j = k - 2 in
+      let k-is : k ≡ suc (suc j) = omega arith in
+      let m = c % 10 ^ suc j in
+      let at : d ∷ 48 ∷ o ≡ digits (suc (suc j)) c = are ∙ ap (λ n. digits n c) k-is in
+      let q : 48 ≡ 48 + m / 10 ^ j = cc in
+      let none : m / 10 ^ j ≡ 0 = omega arith in
+      let whole : m / 10 ^ j * 10 ^ j + m % 10 ^ j ≡ m = div-add-mod' m (10 ^ j) in
+      let small : m < 10 ^ j = subst (λ x. x < 10 ^ j) (ap (λ x. x * 10 ^ j + m % 10 ^ j) (sym none) ∙ whole) (omega (arith, mod-lt m (one-le-pow j 10 (zero-lt-suc 9)))) in
+      let others : c % 10 ^ (k - 1) ≡ m = ap (λ n. c % 10 ^ n) (omega arith) in
+      rw (others, lt-ltb m (10 ^ j) small, ne-eqb c 0 some)
+
+  -- no word of a speed item begins with them
+  pub spoilt-never : {v : Value} {d : List ℕ} → Data (Kind.Speed k) v d → (ds o : List ℕ) → Spoilt ds → d ≡ ds ++ o → ⊥
+  spoilt-never (speed {v = v} c e) ds o s are =
+      let start : s .first ∷ 48 ∷ (s .others ++ o) ≡ digits k c = sym (are ∙ ap (λ l. l ++ o) (s .second)) in
+      let some : c ≡ 0 → ⊥ = λ z. s .some (zeros-every ds o k (sym are ∙ ap (digits k) z ∙ zero-digits k)) in
+      never-taken k c v (second-zero (s .first) c (s .others ++ o) start some) e
