@@ -1,15 +1,21 @@
--- The theorems on refusal places, each file named for its subject.
+-- Where and why the fourth stage refuses, each file named for its subject.
+
+-- a parser's answer over all rows that begin alike
 pub mod Steady
+-- digits: as numbers, and of a speed
 pub mod DigitLists
-pub mod FigureStops
 pub mod SpeedDigits
+-- where each parser stops, from the digits to the program
+pub mod FigureStops
 pub mod SignStops
 pub mod WordStops
 pub mod WordsStops
 pub mod BlockStops
 pub mod ProgramStops
+-- the same in the relation's words, and what could stand there
 pub mod Ahead
 pub mod Told
+-- the theorems: of kept rows, of a tape's answer, of the tape itself
 pub mod RefusedRows
 pub mod RefusedTapes
 pub mod TapeParts

@@ -21,7 +21,7 @@ use Rattle.reading.specs.Figures.{fewest}
 use Rattle.reading.specs.Parse.{missingOf}
 use Rattle.reading.proofs.Signs.{sign}
 use Rattle.places.specs.Begins.{Digit, Begins, Due}
-use Rattle.places.specs.Faults as told
+use Rattle.places.specs.Faults as faults
 use Rattle.places.specs.Faults.{Miscounted, too-few, too-many, EndDue, of-head, of-block, SignRow, Misfit, Cut, in-head, SpeedDue, Spoilt}
 use Rattle.places.proofs.DigitLists.{fewest-most}
 use Rattle.places.proofs.SpeedDigits.{spoilt-never}
@@ -42,7 +42,7 @@ pub data Short (f : Format) : ℕ → List ℕ → Type 0 where
 pub short-cut : {f : Format} {n : ℕ} {x : List ℕ} → Short f n x → ((cs : List Block) → Program f cs x → ⊥) → Cut f n x
 short-cut (head-short o end e some) nay = in-head o end e some
 short-cut {f} (block-short {bs} {h} [] p) nay = absurd (nay bs (rw (append-nil h) p))
-short-cut (block-short (c ∷ s) p) nay = told.in-block (c ∷ s) p (omega arith) nay
+short-cut (block-short (c ∷ s) p) nay = faults.in-block (c ∷ s) p (omega arith) nay
 
 -- ---- what is said of the rows b and the digits ds before the place, and of the rows that decide
 
@@ -88,7 +88,7 @@ both-empty (c ∷ s) ds e = let z = ap length e in absurd (omega arith)
 
 module _ {f : Format} (it : Item) (w : Widths (it .kind)) (item : List·Memᴰ it (itemsOf f)) (x : List ℕ) (due : Due f it x) (cuts : (s : List ℕ) → Short f 14 (x ++ s)) where
   word-told : {n : ℕ} {b ds v : List ℕ} → WordStop it n b ds v → Told f n (x ++ b) ds v
-  word-told (in-data (in-sign (fault h))) = misfit (sym (append-nil _)) (told.sign it x item due h) (address-begins it w x due)
+  word-told (in-data (in-sign (fault h))) = misfit (sym (append-nil _)) (faults.sign it x item due h) (address-begins it w x due)
   word-told (in-data (in-sign cut-sign)) = short (sym (append-nil _)) (cuts (it .letter ∷ [])) (address-begins it w x due)
   word-told (in-data (in-figures {s = s} g a (miscounted {ds} {c} all m d))) =
       let most = miscounted-most (fewest-most (missingOf (it .kind)) (width (it .kind)) (some-width (it .kind) w)) m in
@@ -98,11 +98,11 @@ module _ {f : Format} (it : Item) (w : Widths (it .kind)) (item : List·Memᴰ i
       bare e h = let n = both-empty s ds e in false≢true (sym (d (n .1) ∙ a (n .0)) ∙ sign c h)
 
       go : Outlook it s ds → Told f 11 (x ++ (it .letter ∷ (s ++ []))) ds (c ∷ [])
-      go (open-to o h) = misfit (apart x (it .letter) s ds) (told.figures it x item due g all m bare) (figures-begin it w x due s ds o h)
+      go (open-to o h) = misfit (apart x (it .letter) s ds) (faults.figures it x item due g all m bare) (figures-begin it w x due s ds o h)
       go (spoilt-for {k} e n h) =
           spoilt {x = x} (ap (λ l. x ++ (it .letter ∷ (l ++ []))) n) (record { item = item; speed = e; due = due }) h
           (subst (λ j. length ds ≤ width j) e (miscounted-most (fewest-most (missingOf (it .kind)) (width (it .kind)) (some-width (it .kind) w)) m))
-          (subst (λ l. Misfit f 11 (x ++ (it .letter ∷ (l ++ ds))) c) n (told.figures it x item due g all m bare))
+          (subst (λ l. Misfit f 11 (x ++ (it .letter ∷ (l ++ ds))) c) n (faults.figures it x item due g all m bare))
   word-told (in-data (in-figures {s = s} g a (cut {ds} all l))) =
       go (outlook it w g ds all (omega (arith, fewest-most (missingOf (it .kind)) (width (it .kind)) (some-width (it .kind) w))))
     where
@@ -122,14 +122,14 @@ module _ {f : Format} (facts : Facts f) {bs : List Block} {h : List ℕ} (p : Pr
   cut-behind x s e = subst (Short f 14) e (block-short s p)
 
   block-told : {n : ℕ} {b ds w : List ℕ} → BlockStop f n b ds w → Told f n (h ++ b) ds w
-  block-told (no-start skip c) = misfit (sym (append-nil _)) (told.start skip p c) (start-begins p skip)
+  block-told (no-start skip c) = misfit (sym (append-nil _)) (faults.start skip p c) (start-begins p skip)
   block-told (cut-start skip) = short (sym (append-nil _)) (cut-behind _ (skipRows skip) refl) (start-begins p skip)
   block-told (in-number skip alignment (miscounted {ds} all m d)) =
-      let e : h ++ told.numberRows skip alignment ds ≡ h ++ told.numberRows skip alignment [] ++ ds = simp append-assoc in
-      misfit e (told.number skip alignment p all m) (number-begins p skip alignment ds all (miscounted-most (le-refl (f .sequence)) m))
+      let e : h ++ faults.numberRows skip alignment ds ≡ h ++ faults.numberRows skip alignment [] ++ ds = simp append-assoc in
+      misfit e (faults.number skip alignment p all m) (number-begins p skip alignment ds all (miscounted-most (le-refl (f .sequence)) m))
   block-told (in-number skip alignment (cut {ds} all l)) =
-      let e : h ++ told.numberRows skip alignment ds ≡ h ++ told.numberRows skip alignment [] ++ ds = simp append-assoc in
-      short e (cut-behind _ (told.numberRows skip alignment ds) refl) (number-begins p skip alignment ds all (omega arith))
+      let e : h ++ faults.numberRows skip alignment ds ≡ h ++ faults.numberRows skip alignment [] ++ ds = simp append-assoc in
+      short e (cut-behind _ (faults.numberRows skip alignment ds) refl) (number-begins p skip alignment ds all (omega arith))
   block-told {n} (in-words {ds = ds} {w = w} {s = s} o (in-word {b = b} it r due q)) =
       let e : h ++ (s ++ r) ++ b ≡ h ++ (s ++ (r ++ b)) = simp append-assoc in
       subst (λ y. Told f n y ds w) e
@@ -137,7 +137,7 @@ module _ {f : Format} (facts : Facts f) {bs : List Block} {h : List ℕ} (p : Pr
   block-told (BlockStop.in-end {s = s} {r = r} o ws firm (no-end a b d)) =
       let e : h ++ (s ++ r) ≡ h ++ (s ++ (r ++ [])) ++ [] = simp append-nil in
       let c = words-close p o ws in
-      misfit e (told.end (of-block c) a b (λ k. d (firm (subst Digit (last-behind h (s ++ r) (opened-some o r)) k)))) (closes-begins (h ++ (s ++ r)) [] (h ++ (s ++ r)) c (sym (append-nil _)))
+      misfit e (faults.end (of-block c) a b (λ k. d (firm (subst Digit (last-behind h (s ++ r) (opened-some o r)) k)))) (closes-begins (h ++ (s ++ r)) [] (h ++ (s ++ r)) c (sym (append-nil _)))
   block-told (BlockStop.in-end {s = s} {r = r} o ws firm (no-lf {c} a)) =
       let e : h ++ (s ++ r) ≡ h ++ (s ++ (r ++ [])) = simp append-nil in
       subst (λ y. Told f 10 y [] (13 ∷ c ∷ [])) e (no-lf-behind (of-block (words-close p o ws)) a (cr-begins p o ws))
@@ -149,9 +149,9 @@ module _ {f : Format} (facts : Facts f) {bs : List Block} {h : List ℕ} (p : Pr
       short e (cut-behind _ (s ++ r ++ (13 ∷ [])) (sym (append-assoc h (s ++ r) (13 ∷ [])))) (cr-begins p o ws)
 
 head-told : {f : Format} {n : ℕ} {b ds w : List ℕ} → HeadStop n b ds w → Told f n b ds w
-head-told (no-percent c) = misfit refl (told.percent c) ([], 37 ∷ 10 ∷ [], program lf Blocks.none)
+head-told (no-percent c) = misfit refl (faults.percent c) ([], 37 ∷ 10 ∷ [], program lf Blocks.none)
 head-told cut-percent = short refl (head-short (37 ∷ 10 ∷ []) lf refl (lit< tt)) ([], 37 ∷ 10 ∷ [], program lf Blocks.none)
-head-told (HeadStop.in-end (no-end a b d)) = misfit refl (told.end of-head a b (λ h. absurd (omega arith))) head-begins
+head-told (HeadStop.in-end (no-end a b d)) = misfit refl (faults.end of-head a b (λ h. absurd (omega arith))) head-begins
 head-told (HeadStop.in-end (no-lf a)) = no-lf-behind of-head a ([], 10 ∷ [], program cr-lf Blocks.none)
 head-told (HeadStop.in-end cut-end) = short refl (head-short (10 ∷ []) lf refl (lit< tt)) head-begins
 head-told (HeadStop.in-end cut-lf) = short refl (head-short (10 ∷ []) cr-lf refl (lit< tt)) ([], 10 ∷ [], program cr-lf Blocks.none)

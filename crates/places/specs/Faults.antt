@@ -2,7 +2,7 @@
 use Prim.Native.Nat.{ℕ, _<_}
 use mathlib.Core.Path.{_≡_}
 use mathlib.Core.Logic.{_⊎_}
-use mathlib.Core.Bool.{Bool, cond}
+use mathlib.Core.Bool.{Bool, true, cond}
 use mathlib.Core.List.{List, [], _∷_, _++_, List·Memᴰ}
 use lib.ListN.{length}
 use lib.IntN.{ℤ}
@@ -30,7 +30,7 @@ numberRows skip alignment ds = skipRows skip ++ (cond alignment 58 78 ∷ ds)
 
 -- none of the characters that a block may begin with; behind "/" neither N nor ":"
 abbrev pub NoStart : Bool → ℕ → Type 0
-NoStart skip c = (c ≡ 78 → ⊥) × (c ≡ 58 → ⊥) × (c ≡ 47 → skip ≡ Bool.true)
+NoStart skip c = (c ≡ 78 → ⊥) × (c ≡ 58 → ⊥) × (c ≡ 47 → skip ≡ true)
 
 -- too few digits and another row, or as many as may stand and one more
 pub data Miscounted (least most : ℕ) (ds : List ℕ) (c : ℕ) : Type 0 where
