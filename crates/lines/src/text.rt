@@ -25,7 +25,7 @@ pub fn put(line: &mut [u8], at: usize, b: u8) -> usize
     at + 1
 }
 
-pub fn put_all(line: &mut [u8], start: usize, text: &[u8]) -> usize
+fn put_all(line: &mut [u8], start: usize, text: &[u8]) -> usize
     requires { ⌜ start + length (now text) ≤ length (now line) ⌝ }
     ensures { λ r. ⌜ Put (now (line .entry)) start (now (text .entry)) (now (line .exit)) r ⌝ }
 {
@@ -52,7 +52,7 @@ fn put_zeros(line: &mut [u8], start: usize, n: usize) -> usize
 }
 
 // A number in plain decimal.
-pub fn put_decimal(line: &mut [u8], at: usize, v: u64) -> usize
+fn put_decimal(line: &mut [u8], at: usize, v: u64) -> usize
     requires { ⌜ at + 20 ≤ length (now line) ⌝ }
     ensures put { λ r. ⌜ Put (now (line .entry)) at (decimal v) (now (line .exit)) r ⌝ }
     ensures end { λ r. ⌜ r ≤ at + 20 ⌝ }
