@@ -149,8 +149,7 @@ pub fn gather_words(
 {
     let dots = format.dots;
     let count = format.count;
-    let none = new_block(skip, alignment, sequence);
-    let mut block = none;
+    let mut block = new_block(skip, alignment, sequence);
     let mut front = start;
     let mut k: usize = 0;
     while k < count {
@@ -171,7 +170,7 @@ pub fn gather_words(
                 let WordRead::Is(word, rest) = answer else {
                     return Gathered {
                         words: WordsRead::Refused(word_refusal(answer)),
-                        block: none,
+                        block: new_block(skip, alignment, sequence),
                     };
                 };
                 block = with_word(block, word);

@@ -13,11 +13,11 @@ use Rattle.reading.proofs.words.gather_words.Statement.{statement}
 use Rattle.reading.proofs.words.gather_words.Tie as tie
 
 abbrev Inv-loop : tie.InvT-loop
-Inv-loop tape skip alignment sequence format dots count none block₀ front₀ k₀ block front k =
+Inv-loop tape skip alignment sequence format dots count block₀ front₀ k₀ block front k =
     (k ≤ count) × SoFar (length tape) format (rowsAt tape front₀) skip alignment sequence block (rowsAt tape front) k
 
 abbrev μ-loop : tie.MeasureT-loop
-μ-loop tape skip alignment sequence format dots count none block₀ front₀ k₀ block front k = count - k
+μ-loop tape skip alignment sequence format dots count block₀ front₀ k₀ block front k = count - k
 
 new-block-requires : tie.Need-new-block-requires Inv-loop μ-loop
 new-block-requires c κs = search needs
@@ -70,11 +70,14 @@ enum-told-2 c = search needs
 word-refusal-requires : tie.Need-word-refusal-requires Inv-loop μ-loop
 word-refusal-requires c κs = search needs
 
+new-block-requires-2 : tie.Need-new-block-requires-2 Inv-loop μ-loop
+new-block-requires-2 c κs = search needs
+
 returns-2 : tie.Need-returns-2 Inv-loop μ-loop
 returns-2 c =
-    let e = turned-away _ _ _ _ _ _ (c .before .before .before .before .before .before .before .before .before .before .before .before .before .pre) (c .before .before .before .before .before .before .before .before .before .before .loop .inv .1) (c .before .before .before .before .before .before .before .before .before .loop-test .taken) _ (c .before .before .before .before .before .before .before .reach-item .ensures) _ _ _ (ap (reachTold _ _) (c .before .before .before .before .before .place .given .1))
-    (sym (c .before .before .before .read-word .ensures) ∙ ap (wordTold _) (c .before .enum-told2 .given .1)) in
-    (rw e (ap refusal (c .word-refusal .ensures ∙ ap wordRefusal (c .before .enum-told2 .given .1))), rw e (c .before .before .before .before .before .before .before .before .before .before .before .new-block .ensures))
+    let e = turned-away _ _ _ _ _ _ (c .before .before .before .before .before .before .before .before .before .before .before .before .before .before .pre) (c .before .before .before .before .before .before .before .before .before .before .before .loop .inv .1) (c .before .before .before .before .before .before .before .before .before .before .loop-test .taken) _ (c .before .before .before .before .before .before .before .before .reach-item .ensures) _ _ _ (ap (reachTold _ _) (c .before .before .before .before .before .before .place .given .1))
+    (sym (c .before .before .before .before .read-word .ensures) ∙ ap (wordTold _) (c .before .before .enum-told2 .given .1)) in
+    (rw e (ap refusal (c .before .word-refusal .ensures ∙ ap wordRefusal (c .before .before .enum-told2 .given .1))), rw e (c .new-block2 .ensures))
 
 with-word-requires : tie.Need-with-word-requires Inv-loop μ-loop
 with-word-requires c κs =
@@ -123,6 +126,7 @@ gather-words-spec =
     enum-known-answer
     enum-told-2
     word-refusal-requires
+    new-block-requires-2
     returns-2
     with-word-requires
     loop-less-2
