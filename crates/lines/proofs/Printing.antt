@@ -7,8 +7,11 @@ use lib.ListN.{length, drop}
 use lib.Seq.{sets-eq}
 use borrow.Author.Tests.{le-leb, lt-leb}
 use Rattle.rows.specs.Answer.{Answer, taken, refused}
+use Rattle.rows.proofs.OneAnswer.{Case, takes, refuses, one}
 use Rattle.punching.specs.Answers.{written, after}
-use Rattle.lines.specs.Answers.{room, lineIn}
+use Rattle.lines.specs.declared.Printed.{Printed}
+use Rattle.lines.specs.declared.Printed.the-variants.{Bytes}
+use Rattle.lines.specs.Answers.{room, lineIn, printedTold}
 use Rattle.lines.specs.Line.{Put}
 
 -- a promise of a line: the answer, what the buffer holds after, and that n bytes are within it
@@ -22,3 +25,11 @@ pub in-room : {buffer line l : List ℕ} {n : ℕ} → room ≤ length buffer �
 in-room {buffer} {line} {l} {n} h m g =
     let e : 0 + length line ≡ length line = omega arith in
     rw (le-leb room (length buffer) h) (ap taken (rw e at (g .end)), (g .bytes ∙ sets-eq line buffer 0 (omega (arith, g .end)) ∙ ap (λ k. line ++ drop k buffer) e, omega arith))
+
+-- one possible result: what a line's answer tells is told by no other
+pub one-line : (r q : Printed) → printedTold r ≡ printedTold q → r ≡ q
+one-line r q = one printedTold Bytes Printed.Refused (case r) (case q)
+  where
+    case : (r : Printed) → Case printedTold Bytes Printed.Refused r
+    case (Bytes n) = takes n refl
+    case (Printed.Refused r) = refuses r refl

@@ -6,5 +6,6 @@ pub mod Every
 pub mod Entry
 pub mod Parity
 pub mod Formed
+pub mod OneAnswer
 pub mod Judged
 pub mod KeptRows

@@ -1,7 +1,7 @@
 -- `lines::text::put_words`: what is to come are the words from i on.
 use borrow.Author.Needs.{needs}
 use Rattle.lines.proofs.WordTexts.{words-over, words-next, words-out}
-use Rattle.lines.proofs.Puts.{Coming, coming-all, coming-turn, coming-over, coming-room, coming-as}
+use Rattle.lines.proofs.Puts.{Coming, coming-all, coming-turn, coming-over, coming-as}
 use Rattle.lines.specs.Text.{wordsText}
 use Rattle.reading.specs.Record.{wordsOf}
 use mathlib.Core.Path.{_≡_}
