@@ -12,7 +12,9 @@ pub mod WordStops
 pub mod WordsStops
 pub mod BlockStops
 pub mod ProgramStops
--- the same in the relation's words, and what could stand there
+-- what follows an item's letter, wherever it stands in a program's rows
+pub mod Addressed
+-- the stops in the relation's words, and what could stand there
 pub mod Ahead
 pub mod Told
 -- the theorems: of kept rows, of a tape's answer, of the tape itself

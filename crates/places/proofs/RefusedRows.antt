@@ -26,7 +26,8 @@ use Rattle.places.proofs.Steady.{Refuses, Held, at-row, at-end}
 use Rattle.places.proofs.DigitLists.{zeros-digit}
 use Rattle.places.proofs.ProgramStops.{ProgramStop, program-held}
 use Rattle.places.proofs.Ahead.{zeros-begin}
-use Rattle.places.proofs.Told.{Short, Told, misfit, no-lf-behind, code, short, spoilt, spoilt-short, short-cut, item-widths, program-told}
+use Rattle.places.proofs.Addressed.{item-widths, spoilt-begins}
+use Rattle.places.proofs.Told.{Short, Told, misfit, no-lf-behind, code, short, spoilt, spoilt-short, short-cut, program-told}
 
 -- ---- rows with given characters
 
@@ -125,6 +126,7 @@ module _ (f : Format) (facts : Facts f) (len : ℕ) (rs b es w a : List KeptRow)
       let n = length-map es (λ s. s .char) in
       past-saving (p .left) es a (q .0) r whole (subst (λ y. SpeedDue f it k y) (sym (p .of-left)) due) (q .2) s all
       (subst (λ y. Misfit f 11 (y ++ (it .letter ∷ chars es)) (r .char)) (sym (p .of-left)) (subst (λ d. Misfit f 11 (x ++ (it .letter ∷ chars es)) d) (sym v) m))
+      (spoilt-begins facts due (chars (p .left)) (chars es) s few)
       (zeros (length es), zeros-digit (length es), length-replicate (length es) 48, rw (p .of-left) (zeros-begin it (item-widths (facts .fair) (due .item)) x (due .due) (due .speed) (length es) (omega arith)))
       (λ o h j. unsaved (rowsOf o) (rw (chars-of o) h) (length-map o (λ c. record { place = 0; char = c }) ∙ j) _ (up-to o))
 
@@ -170,6 +172,7 @@ module _ (f : Format) (facts : Facts f) (len : ℕ) (rs b es : List KeptRow) (sp
       let n : length es ≡ length ds = sym (length-map es (λ s. s .char)) ∙ ap length ed in
       cut-past-saving (p .left) es (q .0) whole (subst (λ y. SpeedDue f it k y) (sym (p .of-left)) due) (q .2) (subst Spoilt (sym ed) s) (subst (Every Digit) (sym ed) h) (omega arith)
       (short-cut (subst (Short f 14) is c) nay)
+      (λ g. spoilt-begins facts due y ds s (omega arith) (subst (Begins f) (sym is) g))
       (zeros (length es), zeros-digit (length es), length-replicate (length es) 48, rw (p .of-left) (zeros-begin it (item-widths (facts .fair) (due .item)) y (due .due) (due .speed) (length es) (omega arith)))
 
 -- ---- the theorem

@@ -32,7 +32,7 @@ use Rattle.punching.proofs.Appended.{formed-append, kept-append}
 use Rattle.places.specs.Begins.{Begins}
 use Rattle.places.specs.Faults.{EndDue, Misfit, Refusal, at-row, at-cr, at-address, at-length}
 use Rattle.places.specs.Tapes.{Opens, Shuts, TapePlace, first-wrong, cr-alone, unsaid, ended}
-use Rattle.places.proofs.Told.{item-widths}
+use Rattle.places.proofs.Addressed.{item-widths}
 use Rattle.places.proofs.RefusedTapes.{tape-refused}
 use Rattle.places.proofs.TapeParts.{CutAt, cut-at}
 
@@ -111,6 +111,9 @@ module _ {e : ℕ} {s t : List ℕ} {f : Format} (lawful : Lawful e f) (spelt : 
   opens-before : Begins f (chars b) → Opens e s (take (r .place) t)
   opens-before h = subst (Opens e s) (sym before) (opens lawful spelt passed (subst (λ l. Begins f (chars l)) (sym (cut .rows)) h))
 
+  shuts-before : (Begins f (chars b) → ⊥) → Shuts e s (take (r .place) t)
+  shuts-before nay = subst (Shuts e s) (sym before) (shuts lawful spelt (cut .u) (cut .formed) (λ h. nay (subst (λ l. Begins f (chars l)) (cut .rows) h)))
+
   shuts-with : (Begins f (chars b ++ (r .char ∷ [])) → ⊥) → Shuts e s (take (suc (r .place)) t)
   shuts-with nay =
       let u = cut .u ++ (cut .c ∷ []) in
@@ -172,13 +175,11 @@ module _ {e : ℕ} {s t : List ℕ} {f : Format} (lawful : Lawful e f) (spelt : 
       (opens-before lawful spelt passes b (w ++ a) r q h)
       (shuts-with lawful spelt passes (b ++ (r ∷ o .0)) a (o .1) q₂ (λ k. nay (subst (Begins f) rows k)))
   placed (at-length c h) = ended (opens lawful spelt passes h)
-  placed (Refusal.past-saving b ds a l r q due is s all m o nay) =
+  placed (Refusal.past-saving b ds a l r q due is s all m lost o nay) =
       let q₂ : kept t ≡ b ++ (l ∷ ds) ++ (r ∷ a) = q ∙ sym (append-assoc b (l ∷ ds) (r ∷ a)) in
-      let rows : chars (b ++ (l ∷ ds)) ++ (r .char ∷ []) ≡ chars b ++ (_ ∷ (chars ds ++ (r .char ∷ []))) =
-      ap (λ x. x ++ (r .char ∷ [])) (chars-append b (l ∷ ds) ∙ ap (λ c. chars b ++ (c ∷ chars ds)) is) ∙ append-assoc (chars b) (_ ∷ chars ds) (r .char ∷ []) in
-      TapePlace.past-saving (in-tape lawful spelt passes (b ++ (l ∷ ds)) a r q₂)
-      (shuts-with lawful spelt passes (b ++ (l ∷ ds)) a r q₂ (λ k. nay (chars ds) all (length-map ds (λ d. d .char)) (subst (Begins f) rows k)))
-  placed (Refusal.cut-past-saving b ds l q due is s all few c o) = TapePlace.cut-past-saving
+      let rows : chars (b ++ (l ∷ ds)) ≡ chars b ++ (_ ∷ chars ds) = chars-append b (l ∷ ds) ∙ ap (λ c. chars b ++ (c ∷ chars ds)) is in
+      TapePlace.past-saving (in-tape lawful spelt passes (b ++ (l ∷ ds)) a r q₂) (shuts-before lawful spelt passes (b ++ (l ∷ ds)) a r q₂ (λ k. lost (subst (Begins f) rows k)))
+  placed (Refusal.cut-past-saving b ds l q due is s all few c lost o) = TapePlace.cut-past-saving (shuts lawful spelt t (passes .formed) lost)
 
 -- a tape that reading refuses by 8 to 14 goes wrong where it says
 pub tape-placed : (e : ℕ) (s t : List ℕ) (n p : ℕ) → 8 ≤ n → readUnder e s t ≡ refused n p → TapePlace e s t n p

@@ -1,7 +1,7 @@
 -- What a stop of the parsers says in the relation's words: why the rows do not fit, and that those before them begin a program's.
 use Prim.Native.Nat.{ℕ, _≤_, _<_}
 use mathlib.Core.Path.{_≡_, refl, sym, ap, _∙_, subst}
-use mathlib.Core.List.{List, [], _∷_, _++_, append-nil, append-assoc, List·Memᴰ, List·Memᴰ·head, List·Memᴰ·tail}
+use mathlib.Core.List.{List, [], _∷_, _++_, append-nil, append-assoc, List·Memᴰ}
 use mathlib.Core.Bool.{false≢true}
 use native.Mathlib.Nat.{le-refl}
 use native.Mathlib.Omega.{arith}
@@ -13,10 +13,9 @@ use Rattle.shorthand.specs.declared.Kind.{Kind}
 use Rattle.shorthand.specs.declared.Item.{Item}
 use Rattle.shorthand.specs.declared.Format.{Format}
 use Rattle.shorthand.specs.Layout.{width, itemsOf}
-use Rattle.shorthand.specs.Facts.{Widths, Fair, none, more, Facts}
-use Rattle.reading.specs.declared.Word.{Word}
+use Rattle.shorthand.specs.Facts.{Widths, none, Facts}
 use Rattle.reading.specs.declared.Block.{Block}
-use Rattle.reading.specs.Relation.{digits, Data, Worded, word, End, lf, cr-lf, skipRows, Blocks, Program, program}
+use Rattle.reading.specs.Relation.{digits, word, End, lf, cr-lf, skipRows, Blocks, Program, program}
 use Rattle.reading.specs.Figures.{fewest}
 use Rattle.reading.specs.Parse.{missingOf}
 use Rattle.reading.proofs.Signs.{sign}
@@ -24,7 +23,7 @@ use Rattle.places.specs.Begins.{Digit, Begins, Due}
 use Rattle.places.specs.Faults as faults
 use Rattle.places.specs.Faults.{Miscounted, too-few, too-many, EndDue, of-head, of-block, SignRow, Misfit, Cut, in-head, SpeedDue, Spoilt}
 use Rattle.places.proofs.DigitLists.{fewest-most}
-use Rattle.places.proofs.SpeedDigits.{spoilt-never}
+use Rattle.places.proofs.Addressed.{item-widths}
 use Rattle.places.proofs.FigureStops.{miscounted, cut}
 use Rattle.places.proofs.SignStops.{fault, cut-sign, in-sign, in-figures}
 use Rattle.places.proofs.WordStops.{WordStop, in-data, thirteen}
@@ -65,18 +64,6 @@ some-width : (k : Kind) → Widths k → 1 ≤ width k
 some-width (Kind.Plain n) w = w .0
 some-width (Kind.Speed n) w = omega arith
 some-width (Kind.Dimension d) w = w .2
-
-pub item-widths : {its : List Item} {it : Item} → Fair its → List·Memᴰ it its → Widths (it .kind)
-item-widths (more l w d h) (List·Memᴰ·head e) = subst (λ i. Widths (i .kind)) (sym e) w
-item-widths (more l w d h) (List·Memᴰ·tail m) = item-widths h m
-
--- spoilt digits are past saving: no word of the speed item begins with them
-pub spoilt-word : {f : Format} → Facts f → {k : ℕ} {it : Item} {x : List ℕ} → SpeedDue f it k x → (ds o : List ℕ) → Spoilt ds → {w : Word} {d : List ℕ} → Worded it w d
-    → d ≡ it .letter ∷ (ds ++ o) → ⊥
-spoilt-word facts {k} due ds o s (word {x = x} {ds = e} q) h =
-    let speeds : Widths (Kind.Speed k) = subst Widths (due .speed) (item-widths (facts .fair) (due .item)) in
-    let are : e ≡ ds ++ o = cc in
-    spoilt-never k (speeds .0) (subst (λ j. Data j x e) (due .speed) q) ds o s are
 
 -- an address, a sign and digits, the digits apart
 apart : (x : List ℕ) (l : ℕ) (s ds : List ℕ) → x ++ (l ∷ (s ++ ds)) ≡ x ++ (l ∷ (s ++ [])) ++ ds

@@ -107,12 +107,13 @@ pub data Refusal (f : Format) (len : ℕ) (rs : List KeptRow) : ℕ → ℕ → 
   at-length : {n : ℕ} → Cut f n (chars rs) → Begins f (chars rs) → Refusal f len rs n len
   -- 11 before 13: the digits ds before the wrong row are past saving; other digits in their place begin a program's rows, and with the wrong row none do
   past-saving : {k : ℕ} {it : Item} (b ds a : List KeptRow) (l r : KeptRow) → rs ≡ b ++ (l ∷ (ds ++ (r ∷ a))) → SpeedDue f it k (chars b) → l .char ≡ it .letter
-      → Spoilt (chars ds) → Every Digit (chars ds) → Misfit f 11 (chars b ++ (it .letter ∷ chars ds)) (r .char)
+      → Spoilt (chars ds) → Every Digit (chars ds) → Misfit f 11 (chars b ++ (it .letter ∷ chars ds)) (r .char) → (Begins f (chars b ++ (it .letter ∷ chars ds)) → ⊥)
       → ((o : List ℕ) × Every Digit o × (length o ≡ length ds) × Begins f (chars b ++ (it .letter ∷ o)))
       → ((o : List ℕ) → Every Digit o → length o ≡ length ds → Begins f (chars b ++ (it .letter ∷ (o ++ (r .char ∷ [])))) → ⊥) → Refusal f len rs 11 (r .place)
   -- the same where the tape ends before there are enough digits
   cut-past-saving : {k : ℕ} {it : Item} (b ds : List KeptRow) (l : KeptRow) → rs ≡ b ++ (l ∷ ds) → SpeedDue f it k (chars b) → l .char ≡ it .letter → Spoilt (chars ds)
-      → Every Digit (chars ds) → length ds < k → Cut f 14 (chars rs) → ((o : List ℕ) × Every Digit o × (length o ≡ length ds) × Begins f (chars b ++ (it .letter ∷ o)))
+      → Every Digit (chars ds) → length ds < k → Cut f 14 (chars rs) → (Begins f (chars rs) → ⊥)
+      → ((o : List ℕ) × Every Digit o × (length o ≡ length ds) × Begins f (chars b ++ (it .letter ∷ o)))
       → Refusal f len rs 14 len
 
 -- the tape t passes the first three stages, and under the edition e and the shorthand s the fourth refuses it by n at p

@@ -24,6 +24,6 @@ pub data TapePlace (e : ℕ) (s t : List ℕ) : ℕ → ℕ → Type 0 where
   unsaid : {p : ℕ} (q : ℕ) → p < q → q < length t → Opens e s (take p t) → Shuts e s (take (suc q) t) → TapePlace e s t 13 p
   -- 8 and 14: the whole tape still could
   ended : {n : ℕ} → Opens e s t → TapePlace e s t n (length t)
-  -- 11 before 13: `Refusal` says which rows could stand in their place
-  past-saving : {p : ℕ} → p < length t → Shuts e s (take (suc p) t) → TapePlace e s t 11 p
-  cut-past-saving : TapePlace e s t 14 (length t)
+  -- 11 before 13, and 14 there: the digits before the place are past saving; `Refusal` says which rows could stand for them
+  past-saving : {p : ℕ} → p < length t → Shuts e s (take p t) → TapePlace e s t 11 p
+  cut-past-saving : Shuts e s t → TapePlace e s t 14 (length t)

@@ -46,7 +46,7 @@ reads-full n v h =
       value = λ rest. digits-worth n v 0 h ∙ omega arith;
     }
 
-reads : {n v : ℕ} {z : Missing} {ds : List ℕ} → Punched n v z ds → Reads z n v ds
+pub reads : {n v : ℕ} {z : Missing} {ds : List ℕ} → Punched n v z ds → Reads z n v ds
 reads (in-full h) = reads-full _ _ h
 reads {n} {v} {ds = ds} (front j h e some) =
     record { digit = leading-digit n v j ds h e; most = leading-length n v j ds h e; least = some; value = λ rest. leading-worth n v j ds h e }
@@ -110,7 +110,7 @@ second : (a b : Bool) → (a && b) ≡ true → b ≡ true
 second true b e = e
 second false b e = cc
 
-speed-small : (k c v : ℕ) → speedFor k c ≡ taken v → c < 10 ^ k
+pub speed-small : (k c v : ℕ) → speedFor k c ≡ taken v → c < 10 ^ k
 unfolding speedFor
 speed-small k c v e = ltb-true c (10 ^ k) (second (codeLength k) (ltb c (10 ^ k)) (guarded (codeLength k && ltb c (10 ^ k)) _ v e))
 
