@@ -13,6 +13,7 @@ pub mod WordsStops
 pub mod BlockStops
 pub mod ProgramStops
 -- what follows an item's letter, wherever it stands in a program's rows
+pub mod Behind
 pub mod Addressed
 -- the stops in the relation's words, and what could stand there
 pub mod Ahead
