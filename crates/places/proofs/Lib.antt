@@ -23,3 +23,5 @@ pub mod RefusedRows
 pub mod RefusedTapes
 pub mod TapeParts
 pub mod TapePlaces
+-- no second number fits a refused row
+pub mod Marks
