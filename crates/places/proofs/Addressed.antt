@@ -29,7 +29,7 @@ use Rattle.places.proofs.SpeedDigits.{spoilt-never}
 
 -- ---- one item to a letter
 
-every-item : (P : Item → Type 0) {its : List Item} {it : Item} → List·Memᴰ it its → Every P its → P it
+pub every-item : (P : Item → Type 0) {its : List Item} {it : Item} → List·Memᴰ it its → Every P its → P it
 every-item P (List·Memᴰ·head e) all = subst P (sym e) (all .0)
 every-item P (List·Memᴰ·tail m) all = every-item P m (all .1)
 
@@ -43,10 +43,10 @@ none-other x (it ∷ its) t = go (eqb (it .letter) x) refl t (none-other x its)
     go false e t rest = (eqb-false (it .letter) x e, rest t)
 
 -- another item with the same letter has the same kind
-abbrev Same : Item → Item → Type 0
+abbrev pub Same : Item → Item → Type 0
 Same it i = i .letter ≡ it .letter → i .kind ≡ it .kind
 
-same-letter : {its : List Item} {it : Item} → Fair its → List·Memᴰ it its → Every (Same it) its
+pub same-letter : {its : List Item} {it : Item} → Fair its → List·Memᴰ it its → Every (Same it) its
 same-letter {it = it} (more {it = a} {its = its} l w d f) (List·Memᴰ·head e) = ((λ h. ap (λ i. i .kind) (sym e)), others its (none-other (a .letter) its d))
   where
     others : (is : List Item) → Every (λ i. i .letter ≡ a .letter → ⊥) is → Every (Same it) is
@@ -100,7 +100,7 @@ pub item-widths : {its : List Item} {it : Item} → Fair its → List·Memᴰ it
 item-widths (more l w d h) (List·Memᴰ·head e) = subst (λ i. Widths (i .kind)) (sym e) w
 item-widths (more l w d h) (List·Memᴰ·tail m) = item-widths h m
 
-item-letter : {its : List Item} {it : Item} → Fair its → List·Memᴰ it its → T (anyOf (λ c. eqb c (it .letter)) letters)
+pub item-letter : {its : List Item} {it : Item} → Fair its → List·Memᴰ it its → T (anyOf (λ c. eqb c (it .letter)) letters)
 item-letter (more l w d f) (List·Memᴰ·head e) = subst (λ i. T (anyOf (λ c. eqb c (i .letter)) letters)) (sym e) l
 item-letter (more l w d f) (List·Memᴰ·tail m) = item-letter f m
 

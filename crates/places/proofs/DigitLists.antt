@@ -72,6 +72,11 @@ fewest-most Nothing n h = omega arith
 fewest-most Leading n h = h
 fewest-most Trailing n h = h
 
+pub fewest-some : (z : Missing) (n : ℕ) → 1 ≤ n → 1 ≤ fewest z n
+fewest-some Nothing n h = h
+fewest-some Leading n h = omega arith
+fewest-some Trailing n h = omega arith
+
 -- and so are fewer, with zeros behind them
 pub padded-length : (n : ℕ) (ds : List ℕ) → length ds ≤ n → length (ds ++ zeros (n - length ds)) ≡ n
 padded-length n ds most = simp (length-append, length-replicate) (omega arith)

@@ -25,3 +25,7 @@ pub mod TapeParts
 pub mod TapePlaces
 -- no second number fits a refused row
 pub mod Marks
+pub mod Stems
+pub mod FewFigures
+pub mod EndsAlone
+pub mod OneNumber

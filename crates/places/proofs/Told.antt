@@ -60,7 +60,7 @@ miscounted-most l (too-many e h) = omega arith
 
 -- ---- a word
 
-some-width : (k : Kind) → Widths k → 1 ≤ width k
+pub some-width : (k : Kind) → Widths k → 1 ≤ width k
 some-width (Kind.Plain n) w = w .0
 some-width (Kind.Speed n) w = omega arith
 some-width (Kind.Dimension d) w = w .2
@@ -69,7 +69,7 @@ some-width (Kind.Dimension d) w = w .2
 apart : (x : List ℕ) (l : ℕ) (s ds : List ℕ) → x ++ (l ∷ (s ++ ds)) ≡ x ++ (l ∷ (s ++ [])) ++ ds
 apart x l s ds = simp (append-nil, append-assoc)
 
-both-empty : (s ds : List ℕ) → s ++ ds ≡ [] → (s ≡ []) × (ds ≡ [])
+pub both-empty : (s ds : List ℕ) → s ++ ds ≡ [] → (s ≡ []) × (ds ≡ [])
 both-empty [] ds e = (refl, e)
 both-empty (c ∷ s) ds e = let z = ap length e in absurd (omega arith)
 
