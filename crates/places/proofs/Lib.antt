@@ -29,3 +29,5 @@ pub mod Stems
 pub mod FewFigures
 pub mod EndsAlone
 pub mod OneNumber
+-- no second refusal fits the rows
+pub mod Compared

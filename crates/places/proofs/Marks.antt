@@ -70,6 +70,32 @@ mark-follows f facts true p =
 mark-follows f facts false p =
     follows 78 refl ((λ e. omega arith), (λ e. omega arith)) refl f facts ((λ e. omega arith), (λ e. omega arith), (λ e. omega arith)) ((λ e. omega arith), (λ e. omega arith)) p
 
+-- ---- LF behind CR
+
+abbrev pub LFNext : List ℕ → Type 0
+LFNext z = (o : List ℕ) × (z ≡ 10 ∷ o)
+
+both-next : Behind 13 LFNext (13 ∷ 10 ∷ [])
+both-next [] z q = ([], cc)
+both-next (c ∷ y) z q = let h : 10 ∷ [] ≡ y ++ (13 ∷ z) = cc in behind-none 13 LFNext (10 ∷ []) ((λ h. omega arith), tt) y z h
+
+end-next : (e : List ℕ) → End e → Behind 13 LFNext e
+end-next e lf = behind-none 13 LFNext (10 ∷ []) ((λ h. omega arith), tt)
+end-next e cr-lf = both-next
+
+number-next : (n : ℕ) (alignment : Bool) (v : ℕ) → v < 10 ^ n → Behind 13 LFNext (sequenceRows n alignment v)
+number-next n alignment v small =
+    behind-none 13 LFNext (sequenceRows n alignment v) (mark alignment, every-digit (λ c h e. omega arith) (λ e. omega arith) (λ e. omega arith) (digits n v) (digits-digit n v small))
+  where
+    mark : (alignment : Bool) → _≡_ {A = ℕ} (cond alignment 58 78) 13 → ⊥
+    mark true e = omega arith
+    mark false e = omega arith
+
+pub cr-follows : (f : Format) → Facts f → {bs : List Block} {x : List ℕ} → Program f bs x → Behind 13 LFNext x
+cr-follows f facts p =
+    program-behind 13 LFNext (λ z b q. (q .0 ++ b, ap (λ l. l ++ b) (q .1))) ((λ e. omega arith), (λ e. omega arith), (λ e. omega arith)) end-next f
+    (words-other 13 refl ((λ e. omega arith), (λ e. omega arith)) refl LFNext (facts .fair)) (number-next (f .sequence)) p
+
 -- ---- one LF more than marks
 
 tally : (ℕ → Bool) → List ℕ → ℕ

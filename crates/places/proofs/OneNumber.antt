@@ -29,7 +29,7 @@ use Rattle.places.proofs.EndsAlone.{Ends, not-percent, not-head, not-st
 -- ---- the words by their equations
 
 -- as `Misfit`, and what the rows end in
-data Spot (f : Format) (x : List ℕ) (c : ℕ) : ℕ → Type 0 where
+pub data Spot (f : Format) (x : List ℕ) (c : ℕ) : ℕ → Type 0 where
   percent : x ≡ [] → Spot f x c 8
   head-end : x ≡ 37 ∷ [] → Spot f x c 8
   block-end : Closes f x → (Digit (lastOf x) → Digit c → ⊥) → Spot f x c 10
@@ -39,7 +39,7 @@ data Spot (f : Format) (x : List ℕ) (c : ℕ) : ℕ → Type 0 where
       → Miscounted (fewest (missingOf (it .kind)) (width (it .kind))) (width (it .kind)) ds c → (s ++ ds ≡ [] → SignRow c → ⊥) → Spot f x c 11
   sign : (it : Item) (y : List ℕ) → List·Memᴰ it (itemsOf f) → x ≡ y ++ (it .letter ∷ []) → SignFault (signOf (it .kind)) c → Spot f x c 12
 
-spot : {f : Format} {n c : ℕ} {x : List ℕ} → Misfit f n x c → Spot f x c n
+pub spot : {f : Format} {n c : ℕ} {x : List ℕ} → Misfit f n x c → Spot f x c n
 spot (Misfit.percent h) = percent refl
 spot (Misfit.end EndDue.of-head a b d) = head-end refl
 spot (Misfit.end (EndDue.of-block k) a b d) = block-end k d
