@@ -76,7 +76,7 @@ begins-front {f} a b (bs, o, p) = (bs, b ++ o, subst (λ x. Program f bs x) (app
 
 -- ---- what stands behind the last letter
 
-every-at : (y : List ℕ) (l : ℕ) (z : List ℕ) → Every Figure (y ++ (l ∷ z)) → Figure l
+pub every-at : (y : List ℕ) (l : ℕ) (z : List ℕ) → Every Figure (y ++ (l ∷ z)) → Figure l
 every-at [] l z all = all .0
 every-at (c ∷ y) l z all = every-at y l z (all .1)
 

@@ -29,7 +29,7 @@ use Rattle.places.proofs.FewFigures.{parts, few-digits, sign-shape, few
 
 -- ---- where an end could stand, none of the others does
 
-last-digit : (ds : List ℕ) → Every Digit ds → 0 < length ds → Digit (lastOf ds)
+pub last-digit : (ds : List ℕ) → Every Digit ds → 0 < length ds → Digit (lastOf ds)
 last-digit [] all l = absurd (omega arith)
 last-digit (c ∷ []) all l = all .0
 last-digit (c ∷ (d ∷ ds)) all l = last-digit (d ∷ ds) (all .1) (zero-lt-suc _)
@@ -41,7 +41,7 @@ blocks-some : {f : Format} {bs : List Block} {x : List ℕ} → Blocks f bs x �
 blocks-some Blocks.none l = absurd (omega arith)
 blocks-some (Blocks.more {r = r} {s = s} b h) l = omega (arith, block-some b, length-append r s)
 
-end-some : {e : List ℕ} → End e → 0 < length e
+pub end-some : {e : List ℕ} → End e → 0 < length e
 end-some lf = zero-lt-suc 0
 end-some cr-lf = zero-lt-suc 1
 

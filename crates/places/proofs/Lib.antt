@@ -31,3 +31,5 @@ pub mod EndsAlone
 pub mod OneNumber
 -- no second refusal fits the rows
 pub mod Compared
+pub mod SpeedRuns
+pub mod OneRefusal

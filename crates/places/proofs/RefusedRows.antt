@@ -1,5 +1,5 @@
 -- The theorem: of every tape that the fourth stage refuses, the number and the place say what `Refusal` says of the rows.
-use Prim.Native.Nat.{ℕ, _≤_}
+use Prim.Native.Nat.{ℕ, _^_, _≤_, _<_}
 use mathlib.Core.Path.{_≡_, refl, sym, ap, _∙_, subst}
 use mathlib.Core.Bool.{false, false≢true}
 use mathlib.Core.List.{List, [], _∷_, _++_, append-assoc, map}
@@ -107,11 +107,11 @@ module _ (f : Format) (facts : Facts f) (len : ℕ) (rs b es w a : List KeptRow)
       let up-to : chars b ++ (13 ∷ (s .0 .char ∷ [])) ≡ chars b ++ (chars es ++ (r .char ∷ chars w)) = rw (none, k, l, s .2) in
       at-cr b a r (s .0) whole due k (λ e. nlf (sym (s .2) ∙ e)) begins (unsaved es all refl _ up-to)
 
-  code-refused : (k c : ℕ) (it : Item) → digitNext a ≡ false → chars es ≡ [] → r .char ≡ it .letter → chars w ≡ digits k c → SpeedDue f it k (chars b) → T (secondZero k c) → Begins f (chars b) → Refusal f len rs 13 (r .place)
-  code-refused k c it apart none l v due z begins =
+  code-refused : (k c : ℕ) (it : Item) → digitNext a ≡ false → chars es ≡ [] → r .char ≡ it .letter → chars w ≡ digits k c → SpeedDue f it k (chars b) → c < 10 ^ k → T (secondZero k c) → Begins f (chars b) → Refusal f len rs 13 (r .place)
+  code-refused k c it apart none l v due small z begins =
       let whole : rs ≡ b ++ (r ∷ (w ++ a)) = split ∙ ap (λ d. b ++ (d ++ (r ∷ (w ++ a)))) (no-rows es none) in
       let up-to : chars b ++ chars (r ∷ w) ≡ chars b ++ (chars es ++ (r .char ∷ chars w)) = rw none in
-      at-address c b w a r whole due l v z (λ d o q h. false≢true (sym apart ∙ ap digitNext q ∙ is-digit (d .char) h)) begins (unsaved es all refl _ up-to)
+      at-address c b w a r whole due l v small z (λ d o q h. false≢true (sym apart ∙ ap digitNext q ∙ is-digit (d .char) h)) begins (unsaved es all refl _ up-to)
 
   spoilt-refused : (k c : ℕ) (it : Item) (x : List ℕ) → chars b ≡ x ++ (it .letter ∷ []) → r .char ≡ c → chars w ≡ [] → SpeedDue f it k x → Spoilt (chars es) → length (chars es) ≤ k
       → Misfit f 11 (x ++ (it .letter ∷ chars es)) c → Refusal f len rs 11 (r .place)
@@ -139,10 +139,10 @@ module _ (f : Format) (facts : Facts f) (len : ℕ) (rs b es w a : List KeptRow)
       let k : r .char ≡ 13 = cc in
       let l : chars w ≡ c ∷ [] = cc in
       cr-refused n c ed k l (subst (EndDue f n) (sym eb) due) nlf (subst (λ y. Begins f (y ++ (13 ∷ []))) (sym eb) begins)
-  row-refused (code {k} {it} c due z begins) lone eb ed ev =
+  row-refused (code {k} {it} c due small z begins) lone eb ed ev =
       let l : r .char ≡ it .letter = cc in
       let v : chars w ≡ digits k c = cc in
-      code-refused k c it (lone refl) ed l v (subst (λ y. SpeedDue f it k y) (sym eb) due) z (subst (Begins f) (sym eb) begins)
+      code-refused k c it (lone refl) ed l v (subst (λ y. SpeedDue f it k y) (sym eb) due) small z (subst (Begins f) (sym eb) begins)
   row-refused (short e s begins) lone eb ed ev = let z = ap length ev in absurd (omega arith)
   row-refused (spoilt {k} {c} {it} {x = y} e due s few m) lone eb ed ev =
       let v : r .char ≡ c = cc in
@@ -159,7 +159,7 @@ module _ (f : Format) (facts : Facts f) (len : ℕ) (rs b es : List KeptRow) (sp
   end-refused : {n : ℕ} {x ds v : List ℕ} → Told f n x ds v → chars b ≡ x → chars es ≡ ds → v ≡ [] → Refusal f len rs n len
   end-refused (misfit e m begins) eb ed ev = let z = ap length ev in absurd (omega arith)
   end-refused (no-lf-behind due nlf begins) eb ed ev = let z = ap length ev in absurd (omega arith)
-  end-refused (code c due z begins) eb ed ev = let z = ap length ev in absurd (omega arith)
+  end-refused (code c due small z begins) eb ed ev = let z = ap length ev in absurd (omega arith)
   end-refused (short {n = n} {x = y} e s begins) eb ed ev =
       let is : y ≡ chars rs = e ∙ sym (all-rows ∙ rw (eb, ed)) in
       at-length (short-cut (subst (Short f n) is s) nay) (subst (Begins f) is begins)

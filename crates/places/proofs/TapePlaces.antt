@@ -49,11 +49,11 @@ blocks-bare facts (more {r = r} {s = s} b h) = every-append _ r s (block-bare fa
 program-bare : {f : Format} {bs : List Block} {x : List ℕ} → Facts f → Program f bs x → Bare x
 program-bare facts (program {e = e} {r = r} h k) = (tt, every-append _ e r (end-bare h) (blocks-bare facts k))
 
-every-front : {A : Type 0} (P : A → Type 0) (xs ys : List A) → Every P (xs ++ ys) → Every P xs
+pub every-front : {A : Type 0} (P : A → Type 0) (xs ys : List A) → Every P (xs ++ ys) → Every P xs
 every-front P [] ys all = tt
 every-front P (x ∷ xs) ys all = (all .0, every-front P xs ys (all .1))
 
-every-back : {A : Type 0} (P : A → Type 0) (xs ys : List A) → Every P (xs ++ ys) → Every P ys
+pub every-back : {A : Type 0} (P : A → Type 0) (xs ys : List A) → Every P (xs ++ ys) → Every P ys
 every-back P [] ys all = all
 every-back P (x ∷ xs) ys all = every-back P xs ys (all .1)
 
@@ -162,7 +162,7 @@ module _ {e : ℕ} {s t : List ℕ} {f : Format} (lawful : Lawful e f) (spelt : 
       cr-alone (r .place) (rising-between b [] a cr r (rises q)) (in-tape lawful spelt passes (b ++ (cr ∷ [])) a r q₂)
       (opens-before lawful spelt passes (b ++ (cr ∷ [])) a r q₂ (subst (Begins f) (sym rows) h))
       (shuts-with lawful spelt passes (b ++ (cr ∷ [])) a r q₂ (λ k. nay (subst (Begins f) more-rows k)))
-  placed (at-address {k} {it} c b w a r q due l v z apart h nay) =
+  placed (at-address {k} {it} c b w a r q due l v small z apart h nay) =
       let speeds : Widths (Kind.Speed k) = subst Widths (due .speed) (item-widths (lawful-facts lawful .fair) (due .item)) in
       let some : 0 < length w = omega (arith, length-map w (λ d. d .char), ap length v, digits-length k c, speeds .0) in
       let o = snoc w some in

@@ -1,5 +1,5 @@
 -- What a stop of the parsers says in the relation's words: why the rows do not fit, and that those before them begin a program's.
-use Prim.Native.Nat.{ℕ, _≤_, _<_}
+use Prim.Native.Nat.{ℕ, _^_, _≤_, _<_}
 use mathlib.Core.Path.{_≡_, refl, sym, ap, _∙_, subst}
 use mathlib.Core.List.{List, [], _∷_, _++_, append-nil, append-assoc, List·Memᴰ}
 use mathlib.Core.Bool.{false≢true}
@@ -48,7 +48,7 @@ short-cut (block-short (c ∷ s) p) nay = faults.in-block (c ∷ s) p (omega ari
 pub data Told (f : Format) : ℕ → List ℕ → List ℕ → List ℕ → Type 0 where
   misfit : {n c : ℕ} {x b ds : List ℕ} → x ≡ b ++ ds → Misfit f n x c → Begins f x → Told f n b ds (c ∷ [])
   no-lf-behind : {n c : ℕ} {b : List ℕ} → EndDue f n b → (c ≡ 10 → ⊥) → Begins f (b ++ (13 ∷ [])) → Told f n b [] (13 ∷ c ∷ [])
-  code : {k : ℕ} {it : Item} {b : List ℕ} (c : ℕ) → SpeedDue f it k b → T (secondZero k c) → Begins f b → Told f 13 b [] (it .letter ∷ digits k c)
+  code : {k : ℕ} {it : Item} {b : List ℕ} (c : ℕ) → SpeedDue f it k b → c < 10 ^ k → T (secondZero k c) → Begins f b → Told f 13 b [] (it .letter ∷ digits k c)
   short : {n : ℕ} {x b ds : List ℕ} → x ≡ b ++ ds → Short f n x → Begins f x → Told f n b ds []
   spoilt : {k c : ℕ} {it : Item} {b x ds : List ℕ} → b ≡ x ++ (it .letter ∷ []) → SpeedDue f it k x → Spoilt ds → length ds ≤ k → Misfit f 11 (x ++ (it .letter ∷ ds)) c → Told f 11 b ds (c ∷ [])
   spoilt-short : {k : ℕ} {it : Item} {b x ds : List ℕ} → b ≡ x ++ (it .letter ∷ []) → SpeedDue f it k x → Spoilt ds → Every Digit ds → length ds < k → Short f 14 (x ++ (it .letter ∷ ds))
@@ -99,7 +99,7 @@ module _ {f : Format} (it : Item) (w : Widths (it .kind)) (item : List·Memᴰ i
           spoilt-short {x = x} (ap (λ y. x ++ (it .letter ∷ (y ++ []))) n) (record { item = item; speed = e; due = due }) h all
           (subst (λ j. length ds < fewest (missingOf j) (width j)) e l)
           (cuts (it .letter ∷ ds))
-  word-told (thirteen c e small z) = rw (append-nil x) (code c (record { item = item; speed = e; due = due }) z (before-begins it w x due))
+  word-told (thirteen c e small z) = rw (append-nil x) (code c (record { item = item; speed = e; due = due }) small z (before-begins it w x due))
 
 -- ---- a block, the head, and all
 

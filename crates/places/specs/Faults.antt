@@ -1,5 +1,5 @@
 -- What a refusal of the fourth stage says, by its number and place, of the rows (document 01, "Refusal numbers" and its paragraph on order).
-use Prim.Native.Nat.{ℕ, _<_}
+use Prim.Native.Nat.{ℕ, _^_, _<_}
 use mathlib.Core.Path.{_≡_}
 use mathlib.Core.Logic.{_⊎_}
 use mathlib.Core.Bool.{Bool, true, cond}
@@ -101,7 +101,7 @@ pub data Refusal (f : Format) (len : ℕ) (rs : List KeptRow) : ℕ → ℕ → 
       → Begins f (chars b ++ (13 ∷ [])) → (Begins f (chars b ++ (13 ∷ (r .char ∷ []))) → ⊥) → Refusal f len rs n (cr .place)
   -- 13 at the address: the rows before it begin a program's, and up to the word's last digit no more; a further digit would be 11
   at-address : {k : ℕ} {it : Item} (c : ℕ) (b w a : List KeptRow) (r : KeptRow) → rs ≡ b ++ (r ∷ (w ++ a)) → SpeedDue f it k (chars b) → r .char ≡ it .letter → chars w ≡ digits k c
-      → T (secondZero k c) → ((d : KeptRow) (l : List KeptRow) → a ≡ d ∷ l → Digit (d .char) → ⊥) → Begins f (chars b) → (Begins f (chars b ++ chars (r ∷ w)) → ⊥)
+      → c < 10 ^ k → T (secondZero k c) → ((d : KeptRow) (l : List KeptRow) → a ≡ d ∷ l → Digit (d .char) → ⊥) → Begins f (chars b) → (Begins f (chars b ++ chars (r ∷ w)) → ⊥)
       → Refusal f len rs 13 (r .place)
   -- 8, 14 at the length: all rows begin a program's
   at-length : {n : ℕ} → Cut f n (chars rs) → Begins f (chars rs) → Refusal f len rs n len
