@@ -33,3 +33,4 @@ pub mod OneNumber
 pub mod Compared
 pub mod SpeedRuns
 pub mod OneRefusal
+pub mod Exactly

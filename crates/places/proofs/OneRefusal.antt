@@ -261,5 +261,15 @@ module _ {f : Format} (facts : Facts f) (len : ℕ) (rs : List KeptRow) where
   look-one (long h c) (speed b ds rest l o t) = absurd (lost-all o h)
   look-one (long h c) (long k e) = (cut-one c e, refl)
 
+-- the rows begin no program's, or end too soon
+pub falls-short : {f : Format} → Facts f → (len : ℕ) (rs : List KeptRow) {n p : ℕ} → Refusal f len rs n p → (Begins f (chars rs) → ⊥) ⊎ Cut f n (chars rs)
+falls-short {f} facts len rs {n} a = go (look facts len rs a)
+  where
+    go : {n p : ℕ} → Look facts len rs n p → (Begins f (chars rs) → ⊥) ⊎ Cut f n (chars rs)
+    go (row g b r q m) = inl (point-all facts len rs q)
+    go (cr h b c r q is due) = inl (point-all facts len rs q)
+    go (speed b ds rest l o t) = inl (lost-all facts len rs o)
+    go (long h c) = inr c
+
 pub one-refusal : {f : Format} → Facts f → (len : ℕ) (rs : List KeptRow) {n m p q : ℕ} → Refusal f len rs n p → Refusal f len rs m q → (n ≡ m) × (p ≡ q)
 one-refusal facts len rs a b = look-one facts len rs (look facts len rs a) (look facts len rs b)

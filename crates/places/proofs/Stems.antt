@@ -67,7 +67,7 @@ blocks-lf : {f : Format} {bs : List Block} {x : List ℕ} (a : List ℕ) → InL
 blocks-lf a h Blocks.none = subst InLF (sym (append-nil a)) h
 blocks-lf a h (Blocks.more {r = r} {s = s} b k) = subst InLF (append-assoc a r s) (blocks-lf (a ++ r) (lf-behind a (block-lf b)) k)
 
-program-lf : {f : Format} {bs : List Block} {x : List ℕ} → Program f bs x → InLF x
+pub program-lf : {f : Format} {bs : List Block} {x : List ℕ} → Program f bs x → InLF x
 program-lf (program {e = e} end k) = blocks-lf (37 ∷ e) (lf-behind (37 ∷ []) (end-lf end)) k
 
 -- ---- what the rows end in tells 8, 9 and the words apart
