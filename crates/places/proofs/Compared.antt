@@ -1,5 +1,5 @@
 -- Two ways to split the same rows, and what CR and spoilt words leave no room for.
-use Prim.Native.Nat.{ℕ, suc, _+_, _<_}
+use Prim.Native.Nat.{ℕ, _≤_, _<_}
 use mathlib.Core.Path.{_≡_, refl, sym, ap, _∙_, subst}
 use mathlib.Core.Logic.{_⊎_, inl, inr}
 use mathlib.Core.Bool.{true, false, cond, false≢true}
@@ -8,6 +8,7 @@ use native.Mathlib.Nat.{zero-lt-suc}
 use native.Mathlib.Omega.{arith}
 use lib.ListN.{length, length-append}
 use lib.IntN.{ℤ}
+use Rattle.rows.specs.Kept.{KeptRow}
 use Rattle.rows.specs.Passes.{Every}
 use Rattle.shorthand.specs.declared.Kind.{Kind}
 use Rattle.shorthand.specs.declared.Item.{Item}
@@ -15,18 +16,19 @@ use Rattle.shorthand.specs.declared.Format.{Format}
 use Rattle.shorthand.specs.Layout.{barred, signOf, width, itemsOf}
 use Rattle.shorthand.specs.Edition.{letters}
 use Rattle.shorthand.specs.Facts.{Facts}
-use Rattle.reading.specs.Relation.{Signed, Program, cr-lf, skipRows}
+use Rattle.reading.specs.declared.Block.{Block}
+use Rattle.reading.specs.Relation.{Signed, End, lf, cr-lf, skipRows, Program, program, chars}
 use Rattle.reading.specs.Figures.{fewest}
 use Rattle.reading.specs.Parse.{missingOf}
 use Rattle.reading.proofs.WordsTake.{fails}
 use Rattle.reading.proofs.ReadData.{barred-none}
 use Rattle.places.specs.Begins.{Digit, Begins, Closes}
-use Rattle.places.specs.Faults.{Miscounted, too-few, too-many, SignFault, SpeedDue}
+use Rattle.places.specs.Faults.{Miscounted, too-few, too-many, SignFault, EndDue, of-head, of-block, Cut, in-head, in-block, SpeedDue}
 use Rattle.places.proofs.Behind.{every-digit}
 use Rattle.places.proofs.Addressed.{item-letter, Same, same-letter, every-item}
 use Rattle.places.proofs.Stems.{isFigure, stem, Figure, digit-figure, stem-at, inHead, inNumber, inWord, head-word, number-word, stem-letter, stem-number, stem-start, figures-all}
 use Rattle.places.proofs.Marks.{cr-follows}
-use Rattle.places.proofs.EndsAlone.{not-sign, not-many}
+use Rattle.places.proofs.EndsAlone.{end-some, not-head, not-sign, not-many}
 use Rattle.places.proofs.OneNumber.{Spot, percent, head-end, block-end, start, number, figures, sign}
 
 -- ---- lists split in two ways
@@ -178,3 +180,39 @@ module _ {f : Format} (facts : Facts f) {k : ℕ} {it : Item} {y : List ℕ} (du
     where
       go : {m : ℕ} {z : ℤ} {s : List ℕ} (i : Kind) → i ≡ Kind.Speed k → Signed m (signOf i) z s → s ≡ []
       go {m} {z} {s} i e g = barred-none (subst (λ j. Signed m (signOf j) z s) e g)
+
+-- ---- two ends, and two tapes that end too soon
+
+ends-one : {f : Format} → Facts f → {n m : ℕ} {x : List ℕ} → EndDue f n x → EndDue f m x → n ≡ m
+ends-one facts of-head of-head = refl
+ends-one facts of-head (of-block k) = absurd (not-head facts (37 ∷ []) 0 refl (k, λ d e. omega arith))
+ends-one facts (of-block k) of-head = absurd (not-head facts (37 ∷ []) 0 refl (k, λ d e. omega arith))
+ends-one facts (of-block k) (of-block h) = refl
+
+pub cr-cr : {f : Format} → Facts f → {n m : ℕ} (b h : List KeptRow) (c e : KeptRow) → b ++ (c ∷ []) ≡ h ++ (e ∷ []) → EndDue f n (chars b) → EndDue f m (chars h) → (n ≡ m) × (c .place ≡ e .place)
+cr-cr {f} facts {n} {m} b h c e q i j = go (compare b h c [] e [] q)
+  where
+    go : Split b h c [] e [] → (n ≡ m) × (c .place ≡ e .place)
+    go (same x y z) = (ends-one facts i (subst (λ l. EndDue f m (chars l)) (sym x) j), ap (λ r. r .place) y)
+    go (sooner u x y) = let z = ap length y in absurd (omega (arith, length-append u (e ∷ [])))
+    go (later u x y) = let z = ap length y in absurd (omega (arith, length-append u (c ∷ [])))
+
+end-most : {e : List ℕ} → End e → length e ≤ 2
+end-most lf = omega arith
+end-most cr-lf = omega arith
+
+program-most : {f : Format} {bs : List Block} {x : List ℕ} → Program f bs x → 2 ≤ length x
+program-most (program {e = e} {r = r} end h) = omega (arith, length-append e r, end-some end)
+
+cut-size : {f : Format} {n : ℕ} {x : List ℕ} → Cut f n x → ((n ≡ 8) × (length x ≤ 2)) ⊎ ((n ≡ 14) × (3 ≤ length x))
+cut-size {x = x} (in-head o end e some) = inl (refl, omega (arith, length-append x o, ap length e, end-most end))
+cut-size (in-block {h = h} s p some nay) = inr (refl, omega (arith, length-append h s, program-most p))
+
+pub cut-one : {f : Format} {n m : ℕ} {x : List ℕ} → Cut f n x → Cut f m x → n ≡ m
+cut-one {n = n} {m} {x} a b = go (cut-size a) (cut-size b)
+  where
+    go : ((n ≡ 8) × (length x ≤ 2)) ⊎ ((n ≡ 14) × (3 ≤ length x)) → ((m ≡ 8) × (length x ≤ 2)) ⊎ ((m ≡ 14) × (3 ≤ length x)) → n ≡ m
+    go (inl p) (inl q) = p .0 ∙ sym (q .0)
+    go (inl p) (inr q) = absurd (omega arith)
+    go (inr p) (inl q) = absurd (omega arith)
+    go (inr p) (inr q) = p .0 ∙ sym (q .0)

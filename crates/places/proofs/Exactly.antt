@@ -18,7 +18,6 @@ use Rattle.reading.specs.Relation.{End, lf, cr-lf, Program, chars}
 use Rattle.reading.specs.Parse.{Entry}
 use Rattle.reading.specs.Answers.{programAt, read, readUnder}
 use Rattle.reading.proofs.Sound.{sound}
-use Rattle.reading.proofs.Outcomes.{chars-append}
 use Rattle.places.specs.Begins.{Begins}
 use Rattle.places.specs.Faults.{Cut, in-head, in-block, Refusal, RefusalOf}
 use Rattle.places.proofs.Behind.{behind-none}

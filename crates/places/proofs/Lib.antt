@@ -29,7 +29,7 @@ pub mod Stems
 pub mod FewFigures
 pub mod EndsAlone
 pub mod OneNumber
--- no second refusal fits the rows
+-- no second refusal fits the rows, and so exactly
 pub mod Compared
 pub mod SpeedRuns
 pub mod OneRefusal

@@ -13,33 +13,25 @@ use Rattle.shorthand.specs.declared.Kind.{Kind}
 use Rattle.shorthand.specs.declared.Item.{Item}
 use Rattle.shorthand.specs.declared.Format.{Format}
 use Rattle.shorthand.specs.Facts.{Widths, Facts}
-use Rattle.reading.specs.declared.Block.{Block}
-use Rattle.reading.specs.Relation.{End, lf, cr-lf, Program, program, chars}
+use Rattle.reading.specs.Relation.{chars}
 use Rattle.reading.specs.Figures.{digitNext}
 use Rattle.reading.proofs.Outcomes.{chars-append}
 use Rattle.reading.proofs.DigitRows.{digits-length, digits-digit}
 use Rattle.places.specs.Begins.{Digit, Begins}
-use Rattle.places.specs.Faults.{Miscounted, too-few, too-many, lastOf, EndDue, of-head, of-block, Misfit, Cut, in-head, in-block, SpeedDue, Refusal}
+use Rattle.places.specs.Faults.{Miscounted, too-few, too-many, lastOf, EndDue, Misfit, Cut, SpeedDue, Refusal}
 use Rattle.places.proofs.WordsStops.{last-behind}
 use Rattle.places.proofs.Ahead.{address-begins, before-begins}
 use Rattle.places.proofs.Addressed.{item-widths, item-letter, Same, same-letter, every-item, other-letter, digit-other}
-use Rattle.places.proofs.EndsAlone.{last-digit, end-some, not-head}
+use Rattle.places.proofs.EndsAlone.{last-digit}
 use Rattle.places.proofs.TapePlaces.{every-front, every-back}
 use Rattle.places.proofs.OneNumber.{spot, one-number}
-use Rattle.places.proofs.Compared.{Split, same, sooner, later, compare, nested, begins-front, behind-cr, inside-word, speed-miscount}
+use Rattle.places.proofs.Compared.{Split, same, sooner, later, compare, nested, begins-front, behind-cr, inside-word, speed-miscount, cr-cr, cut-one}
 use Rattle.places.proofs.SpeedRuns.{Run, whole, few, many, out, not-next, run-stop, run-one, same-run}
 
 -- ---- the refusals by what they turn on
 
 chars-at : (g u : List KeptRow) (r : KeptRow) → chars (g ++ (r ∷ u)) ≡ chars g ++ (r .char ∷ []) ++ chars u
 chars-at g u r = chars-append g (r ∷ u) ∙ sym (append-assoc (chars g) (r .char ∷ []) (chars u))
-
-end-most : {e : List ℕ} → End e → length e ≤ 2
-end-most lf = omega arith
-end-most cr-lf = omega arith
-
-program-most : {f : Format} {bs : List Block} {x : List ℕ} → Program f bs x → 2 ≤ length x
-program-most (program {e = e} {r = r} end h) = omega (arith, length-append e r, end-some end)
 
 module _ {f : Format} (facts : Facts f) (len : ℕ) (rs : List KeptRow) where
   -- the rows g begin a program's, and with r no more
@@ -169,20 +161,6 @@ module _ {f : Format} (facts : Facts f) (len : ℕ) (rs : List KeptRow) where
       let e : chars g ≡ chars h ++ (13 ∷ []) = ap chars (points p q .0) ∙ chars-append h (c ∷ []) ∙ ap (λ x. chars h ++ (x ∷ [])) is in
       behind-cr facts (chars h) (spot (subst (λ x. Misfit f n x (r .char)) e m))
 
-  ends-one : {n m : ℕ} {x : List ℕ} → EndDue f n x → EndDue f m x → n ≡ m
-  ends-one of-head of-head = refl
-  ends-one of-head (of-block k) = absurd (not-head facts (37 ∷ []) 0 refl (k, λ d e. omega arith))
-  ends-one (of-block k) of-head = absurd (not-head facts (37 ∷ []) 0 refl (k, λ d e. omega arith))
-  ends-one (of-block k) (of-block h) = refl
-
-  cr-cr : {n m : ℕ} (b h : List KeptRow) (c e : KeptRow) → b ++ (c ∷ []) ≡ h ++ (e ∷ []) → EndDue f n (chars b) → EndDue f m (chars h) → (n ≡ m) × (c .place ≡ e .place)
-  cr-cr {n} {m} b h c e q i j = go (compare b h c [] e [] q)
-    where
-      go : Split b h c [] e [] → (n ≡ m) × (c .place ≡ e .place)
-      go (same x y z) = (ends-one i (subst (λ l. EndDue f m (chars l)) (sym x) j), ap (λ r. r .place) y)
-      go (sooner u x y) = let z = ap length y in absurd (omega (arith, length-append u (e ∷ [])))
-      go (later u x y) = let z = ap length y in absurd (omega (arith, length-append u (c ∷ [])))
-
   -- ---- two speeds
 
   -- the address of the one does not stand behind that of the other
@@ -226,19 +204,6 @@ module _ {f : Format} (facts : Facts f) (len : ℕ) (rs : List KeptRow) where
   lost-all : {k : ℕ} {it : Item} {b ds rest : List KeptRow} {l : KeptRow} → Lost k it b ds rest l → Begins f (chars rs) → ⊥
   lost-all {it = it} {b} {ds} {rest} o h = o .bad (begins-front (chars b ++ (it .letter ∷ chars ds)) (chars rest) (subst (Begins f) (ap chars (o .split) ∙ lost-rows o rest) h))
 
-  cut-size : {n : ℕ} {x : List ℕ} → Cut f n x → ((n ≡ 8) × (length x ≤ 2)) ⊎ ((n ≡ 14) × (3 ≤ length x))
-  cut-size {x = x} (in-head o end e some) = inl (refl, omega (arith, length-append x o, ap length e, end-most end))
-  cut-size (in-block {h = h} s p some nay) = inr (refl, omega (arith, length-append h s, program-most p))
-
-  cut-one : {n m : ℕ} {x : List ℕ} → Cut f n x → Cut f m x → n ≡ m
-  cut-one {n} {m} {x} a b = go (cut-size a) (cut-size b)
-    where
-      go : ((n ≡ 8) × (length x ≤ 2)) ⊎ ((n ≡ 14) × (3 ≤ length x)) → ((m ≡ 8) × (length x ≤ 2)) ⊎ ((m ≡ 14) × (3 ≤ length x)) → n ≡ m
-      go (inl p) (inl q) = p .0 ∙ sym (q .0)
-      go (inl p) (inr q) = absurd (omega arith)
-      go (inr p) (inl q) = absurd (omega arith)
-      go (inr p) (inr q) = p .0 ∙ sym (q .0)
-
   -- ---- one refusal
 
   look-one : {n m p q : ℕ} → Look n p → Look m q → (n ≡ m) × (p ≡ q)
@@ -249,7 +214,7 @@ module _ {f : Format} (facts : Facts f) (len : ℕ) (rs : List KeptRow) where
   look-one (row g a r p i) (speed b ds rest l o t) = absurd (row-speed p i o)
   look-one (row g a r p i) (long h c) = absurd (point-all p h)
   look-one (cr h d c s q is due) (row g a r p i) = absurd (row-cr h c p i q is)
-  look-one (cr h d c s q is due) (cr g a e r p so j) = cr-cr h g c e (points q p .0) due j
+  look-one (cr h d c s q is due) (cr g a e r p so j) = cr-cr facts h g c e (points q p .0) due j
   look-one (cr h d c s q is due) (speed b ds rest l o t) = absurd (cr-speed h c q is o)
   look-one (cr h d c s q is due) (long k e) = absurd (point-all q k)
   look-one (speed b ds rest l o t) (row g a r p i) = absurd (row-speed p i o)
