@@ -17,7 +17,7 @@ use Rattle.shorthand.specs.Facts.{Widths, Fair, none, more, Facts}
 use Rattle.reading.specs.declared.Word.{Word}
 use Rattle.reading.specs.Figures.{Behind, taking, fronts}
 use Rattle.reading.specs.Parse.{wordAt, steps, stepped, consWord, wordsAt}
-use Rattle.reading.specs.Front.{Standing, stops, out, at, standing, restOf}
+use Rattle.reading.specs.Front.{Standing, stops, out, at, standing, restOf, Passing, nothing, past, itemPassed, itemAt}
 
 -- ---- the items of a Format
 
@@ -82,3 +82,33 @@ module _ (len : ℕ) (f : Format) (h : Facts f) (rs : List KeptRow) (k : ℕ) wh
 pub rest-cons : (w : Word) (a : Answer (Behind (List Word))) → restOf (consWord w a) ≡ restOf a
 rest-cons w (taken x) = refl
 rest-cons w (refused n p) = refl
+
+-- ---- one item passed by
+
+module _ (len : ℕ) (f : Format) where
+  -- what is behind the words from item k on
+  abbrev pub restFrom : ℕ → List KeptRow → Answer (List KeptRow)
+  restFrom k rs = restOf (wordsAt len (f .dots) (drop k (itemsOf f)) rs)
+
+  -- the same by what was passed by of item k
+  abbrev pub restPast : ℕ → List KeptRow → Passing → Answer (List KeptRow)
+  restPast k rs nothing = taken rs
+  restPast k rs (past u) = restFrom (k + 1) u
+
+  module _ (h : Facts f) (rs : List KeptRow) (k : ℕ) where
+    by-word : (a : Answer (Behind Word))
+        → restOf (a >>= λ w. consWord (w .value) (wordsAt len (f .dots) (drop (k + 1) (itemsOf f)) (w .rest))) ≡ ((restOf a >>= λ u. taken (past u)) >>= restPast k rs)
+    by-word (taken w) = rest-cons (w .value) (wordsAt len (f .dots) (drop (k + 1) (itemsOf f)) (w .rest))
+    by-word (refused n p) = refl
+
+    by-standing : (s : Standing)
+        → restOf (resumed len (f .dots) (getD (f .items) k blank) (drop (k + 1) (itemsOf f)) rs s) ≡ (itemPassed len (getD (f .items) k blank) s >>= restPast k rs)
+    by-standing stops = refl
+    by-standing (out u) = refl
+    by-standing (at u) = by-word (wordAt len (getD (f .items) k blank) u)
+
+    pub item-passed : k < f .count → (a : Answer Passing) → a ≡ itemAt len (f .dots) (getD (f .items) k blank) rs → restFrom k rs ≡ (a >>= restPast k rs)
+    item-passed l a e = ap restOf (words-turn len f h rs k l _ refl) ∙ by-standing (standing (f .dots) (getD (f .items) k blank .letter) rs) ∙ ap (λ x. x >>= restPast k rs) (sym e)
+
+    pub none-left : f .count ≤ k → restFrom k rs ≡ taken rs
+    none-left l = ap restOf (words-over len f h rs k l)

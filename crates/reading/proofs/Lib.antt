@@ -30,4 +30,5 @@ pub mod ItemSteps
 pub mod Gathering
 pub mod Started
 pub mod BlockWalk
+pub mod InBlock
 pub mod Numbered

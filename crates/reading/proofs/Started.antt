@@ -2,8 +2,11 @@
 use mathlib.Core.Path.{_≡_, refl, sym, ap, _∙_}
 use mathlib.Core.Bool.{Bool, true, false, _||_, cond}
 use mathlib.Core.List.{List, [], _∷_}
+use mathlib.Core.Logic.{_⊎_, inl, inr}
 use Prim.Native.Nat.{ℕ}
 use native.Mathlib.Omega.{arith}
+use lib.Dec.{eqb}
+use borrow.Author.Tests.{ne-eqb}
 use Rattle.rows.specs.Answer.{Answer, taken, refused, _>>=_}
 use Rattle.rows.specs.Kept.{KeptRow}
 use Rattle.shorthand.specs.declared.Missing.the-variants.{Nothing}
@@ -14,7 +17,7 @@ use Rattle.reading.specs.declared.Block.{Block}
 use Rattle.reading.specs.Record.{blockOf}
 use Rattle.reading.specs.Figures.{Behind, taking, wrong, fronts, behind, ended, figures}
 use Rattle.reading.specs.Parse.{wordsAt, BlockRead, sequenced, blockAt}
-use Rattle.reading.specs.Front.{Begun, digitsAt, numberAt, startAt, restOf, gatheredIn, lfOf, blockOnly}
+use Rattle.reading.specs.Front.{Begun, digitsAt, numberAt, pastSlash, startAt, past, openedAt, restOf, gatheredIn, lfOf, blockOnly}
 
 -- the block that has begun, with these words and this end
 abbrev pub wordsAndEnd : ℕ → Format → Behind Begun → Answer (Behind BlockRead)
@@ -25,6 +28,30 @@ wordsAndEnd len f s =
 lf-of : (b : Block) (a : Answer (Behind ℕ)) → lfOf (a >>= λ x. taking (record { block = b; lf = x .value }) (x .rest)) ≡ a
 lf-of b (taken x) = refl
 lf-of b (refused n p) = refl
+
+-- ---- the start
+
+module _ (len n : ℕ) (rs : List KeptRow) where
+  by-slash : (x : Bool) → numberAt len n x (cond x (behind rs) rs) ≡ cond x (numberAt len n true (behind rs)) (numberAt len n false rs)
+  by-slash true = refl
+  by-slash false = refl
+
+  pub slashed : numberAt len n (fronts 47 rs) (pastSlash rs) ≡ startAt len n rs
+  slashed = by-slash (fronts 47 rs)
+
+  -- N or ":", and any other row
+  module _ (skip : Bool) (c p : ℕ) where
+    pub marked : (c ≡ 58) ⊎ (c ≡ 78) → numberAt len n skip (record { place = p; char = c } ∷ rs) ≡ digitsAt len n skip (eqb c 58) rs
+    marked (inl e) = rw e
+    marked (inr e) = rw e
+
+    pub unmarked : ((c ≡ 58) ⊎ (c ≡ 78) → ⊥) → numberAt len n skip (record { place = p; char = c } ∷ rs) ≡ refused 9 p
+    unmarked other = rw (ne-eqb c 78 (λ e. other (inr e)), ne-eqb c 58 (λ e. other (inl e)))
+
+  pub opened : (r : KeptRow) (u : List KeptRow) → rs ≡ r ∷ u → openedAt len n rs ≡ (restOf (startAt len n rs) >>= λ x. taken (past x))
+  opened r u e = rw e
+
+-- ---- the whole block
 
 module _ (len : ℕ) (f : Format) where
   after-digits : (skip alignment : Bool) (a : Answer (Behind ℕ))
@@ -78,9 +105,18 @@ module _ (len : ℕ) (f : Format) where
         → blockAt len f rs ≡ (ended len 14 10 u >>= λ x. taking (record { block = blockOf (s .value .skip) (s .value .alignment) (s .value .sequence) (gatheredIn words); lf = x .value }) (x .rest))
     then-end u r = ended-by words refl u r
 
-    -- the place of the LF and what is behind it are the end's
+    closes : (a : Answer (Behind (List Word)))
+        → lfOf (a >>= λ ws. ended len 14 10 (ws .rest) >>= λ x. taking (record { block = blockOf (s .value .skip) (s .value .alignment) (s .value .sequence) (ws .value); lf = x .value }) (x .rest))
+        ≡ (restOf a >>= ended len 14 10)
+    closes (taken ws) = lf-of (blockOf (s .value .skip) (s .value .alignment) (s .value .sequence) (ws .value)) (ended len 14 10 (ws .rest))
+    closes (refused n p) = refl
+
+    -- the place of the LF and what is behind it are the end's, behind the words
+    pub then-closes : lfOf (blockAt len f rs) ≡ (restOf words >>= ended len 14 10)
+    then-closes = ap lfOf on ∙ closes words
+
     pub then-lf : (u : List KeptRow) → restOf words ≡ taken u → lfOf (blockAt len f rs) ≡ ended len 14 10 u
-    then-lf u r = ap lfOf (then-end u r) ∙ lf-of (blockOf (s .value .skip) (s .value .alignment) (s .value .sequence) (gatheredIn words)) (ended len 14 10 u)
+    then-lf u r = then-closes ∙ ap (λ a. a >>= ended len 14 10) r
 
     pub then-block : (u : List KeptRow) (x : Behind ℕ) → restOf words ≡ taken u → ended len 14 10 u ≡ taken x
         → blockOnly (blockAt len f rs) ≡ taken (blockOf (s .value .skip) (s .value .alignment) (s .value .sequence) (gatheredIn words))

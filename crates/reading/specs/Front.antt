@@ -18,6 +18,7 @@ use Rattle.reading.specs.declared.Meant.{Meant}
 use Rattle.reading.specs.declared.DataRead.{DataRead}
 use Rattle.reading.specs.declared.WordRead.{WordRead}
 use Rattle.reading.specs.declared.Reach.{Reach}
+use Rattle.reading.specs.declared.Passed.{Passed}
 use Rattle.reading.specs.declared.WordsRead.{WordsRead}
 use Rattle.reading.specs.declared.StartRead.{StartRead}
 use Rattle.reading.specs.declared.Start.{Start}
@@ -28,9 +29,10 @@ use Rattle.reading.specs.Answers.{nowhere}
 use Rattle.rows.specs.declared.Refusal.{Refusal}
 use Rattle.shorthand.specs.declared.Missing.the-variants.{Nothing}
 use Rattle.shorthand.specs.declared.Kind.{Kind}
+use Rattle.shorthand.specs.declared.Item.{Item}
 use Rattle.shorthand.specs.Layout.{width}
-use Rattle.reading.specs.Figures.{Behind, taking, wrong, fronts, behind, isDigit, Run, figures}
-use Rattle.reading.specs.Parse.{missingOf, meant, steps, stepped, BlockRead, Entry}
+use Rattle.reading.specs.Figures.{Behind, taking, wrong, fronts, behind, isDigit, isSign, Run, figures}
+use Rattle.reading.specs.Parse.{missingOf, meant, wordAt, steps, stepped, BlockRead, Entry}
 
 -- the row that was fetched and the kept rows behind it
 abbrev pub rowsAt : List ℕ → Next → List KeptRow
@@ -53,9 +55,15 @@ abbrev pub figuresTold : List ℕ → FiguresRead → Answer (Behind ℕ)
 figuresTold t (FiguresRead.Number v front) = taking v (rowsAt t front)
 figuresTold t (FiguresRead.Refused r) = refusal r
 
-abbrev pub signTold : List ℕ → SignRead → Answer (Behind Bool)
-signTold t (SignRead.Minus m front) = taking m (rowsAt t front)
-signTold t (SignRead.Refused r) = refusal r
+-- the rows behind a sign, where one stands
+abbrev pub pastSign : List KeptRow → List KeptRow
+pastSign [] = []
+pastSign (r ∷ rs) = cond (isSign (r .char)) rs (r ∷ rs)
+
+-- what was said of the sign at the front of some rows
+abbrev pub signTold : List KeptRow → SignRead → Answer (Behind Bool)
+signTold rs (SignRead.Minus m) = taking m (pastSign rs)
+signTold rs (SignRead.Refused r) = refusal r
 
 abbrev pub meantTold : Meant → Answer Value
 meantTold (Meant.Is x) = taken x
@@ -97,6 +105,25 @@ reachTold t c (Reach.At p a) = at (rowsAt t (Row c p a))
 abbrev pub restOf : {A : Type 0} → Answer (Behind A) → Answer (List KeptRow)
 restOf a = a >>= λ x. taken (x .rest)
 
+-- what is passed by: nothing is there, or the rows behind it
+pub data Passing : Type 0 where
+  nothing : Passing
+  past : List KeptRow → Passing
+
+abbrev pub passedTold : List ℕ → Passed → Answer Passing
+passedTold t Passed.Nothing = taken nothing
+passedTold t (Passed.Behind front) = taken (past (rowsAt t front))
+passedTold t (Passed.Refused r) = refusal r
+
+abbrev pub itemPassed : ℕ → Item → Standing → Answer Passing
+itemPassed len it stops = taken nothing
+itemPassed len it (out rs) = taken (past rs)
+itemPassed len it (at rs) = restOf (wordAt len it rs) >>= λ u. taken (past u)
+
+-- one item, its word passed by where it stands
+abbrev pub itemAt : ℕ → Bool → Item → List KeptRow → Answer Passing
+itemAt len tabs it rs = itemPassed len it (standing tabs (it .letter) rs)
+
 abbrev pub restTold : List ℕ → WordsRead → Answer (List KeptRow)
 restTold t (WordsRead.Done front) = taken (rowsAt t front)
 restTold t (WordsRead.Refused r) = refusal r
@@ -122,6 +149,15 @@ numberAt len n skip rs = cond (fronts 78 rs || fronts 58 rs) (digitsAt len n ski
 
 abbrev pub startAt : ℕ → ℕ → List KeptRow → Answer (Behind Begun)
 startAt len n rs = cond (fronts 47 rs) (numberAt len n true (behind rs)) (numberAt len n false rs)
+
+-- the rows behind "/", where it stands
+abbrev pub pastSlash : List KeptRow → List KeptRow
+pastSlash rs = cond (fronts 47 rs) (behind rs) rs
+
+-- the start of the next block passed by, where there is one
+abbrev pub openedAt : ℕ → ℕ → List KeptRow → Answer Passing
+openedAt len n [] = taken nothing
+openedAt len n (r ∷ rs) = restOf (startAt len n (r ∷ rs)) >>= λ u. taken (past u)
 
 abbrev pub startTold : List ℕ → StartRead → Answer (Behind Begun)
 startTold t (StartRead.Is s) = taking (record { skip = s .skip; alignment = s .alignment; sequence = s .sequence }) (rowsAt t (s .front))

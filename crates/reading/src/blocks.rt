@@ -1,16 +1,19 @@
 // The head, and a block with its end: passed by, or gathered.
 ghost use mathlib.Core.Path.{_≡_};
-ghost use Prim.Native.Nat.{_≤_};
+ghost use mathlib.Core.List.{List};
+ghost use Prim.Native.Nat.{ℕ, _≤_};
 ghost use lib.ListN.{length};
 ghost use Rattle.rows.specs.Answer.{valueOr};
 ghost use Rattle.shorthand.specs.Facts.{Facts};
 ghost use Rattle.reading.specs.Record.{emptyBlock};
+ghost use Rattle.reading.specs.Figures.{fronts};
 ghost use Rattle.reading.specs.Parse.{headAt, blockAt};
-ghost use Rattle.reading.specs.Front.{rowsAt, endTold, startTold, digitsAt, numberAt, startAt, lfOf, blockOnly};
+ghost use Rattle.reading.specs.Front.{rowsAt, endTold, startTold, digitsAt, numberAt, pastSlash, startAt, openedAt, passedTold, lfOf, blockOnly};
 use crate::Block;
 use crate::BlockGathered;
 use crate::EndRead;
 use crate::FiguresRead;
+use crate::Passed;
 use crate::Start;
 use crate::StartRead;
 use crate::Value;
@@ -80,9 +83,47 @@ fn read_sequence(tape: &[u8], digits: usize, skip: bool, front: Next) -> StartRe
         });
     };
     match character {
-        78 => read_number(tape, digits, skip, false, rows::next_kept(tape, after)),
-        58 => read_number(tape, digits, skip, true, rows::next_kept(tape, after)),
+        78 | 58 => read_number(
+            tape,
+            digits,
+            skip,
+            character == 58,
+            rows::next_kept(tape, after),
+        ),
         _ => StartRead::Refused(Refusal { number: 9, place }),
+    }
+}
+
+// Whether the fetched row is "/".
+fn is_slash(front: Next) -> bool
+    ensures { λ r. ⌜ ((t : List ℕ) → r ≡ fronts 47 (rowsAt t front)) ⌝ }
+{
+    match front {
+        Next::End => false,
+        Next::Row {
+            character,
+            place: _,
+            after: _,
+        } => character == 47,
+    }
+}
+
+// The row behind "/", where it stands.
+fn pass_slash(tape: &[u8], front: Next) -> Next
+    ensures { λ r. ⌜ rowsAt (now (tape .entry)) r ≡ pastSlash (rowsAt (now (tape .entry)) front) ⌝ }
+{
+    let Next::Row {
+        character,
+        place: _,
+        after,
+    } = front
+    else {
+        return front;
+    };
+    if character == 47 {
+        rows::next_kept(tape, after)
+    } else {
+        front
     }
 }
 
@@ -91,18 +132,28 @@ fn read_start(tape: &[u8], digits: usize, front: Next) -> StartRead
     requires { ⌜ digits ≤ 18 ⌝ }
     ensures { λ r. ⌜ startTold (now (tape .entry)) r ≡ startAt (length (now (tape .entry))) digits (rowsAt (now (tape .entry)) front) ⌝ }
 {
+    read_sequence(tape, digits, is_slash(front), pass_slash(tape, front))
+}
+
+// The start of the next block, read and not kept.
+pub fn open_block(tape: &[u8], digits: usize, front: Next) -> Passed
+    requires { ⌜ digits ≤ 18 ⌝ }
+    ensures { λ r. ⌜ passedTold (now (tape .entry)) r ≡ openedAt (length (now (tape .entry))) digits (rowsAt (now (tape .entry)) front) ⌝ }
+{
     let Next::Row {
-        character,
+        character: _,
         place: _,
-        after,
+        after: _,
     } = front
     else {
-        return read_sequence(tape, digits, false, front);
+        return Passed::Nothing;
     };
-    if character == 47 {
-        read_sequence(tape, digits, true, rows::next_kept(tape, after))
-    } else {
-        read_sequence(tape, digits, false, front)
+    match read_start(tape, digits, front) {
+        StartRead::Is(s) => {
+            let next = s.front;
+            Passed::Behind(next)
+        }
+        StartRead::Refused(r) => Passed::Refused(r),
     }
 }
 

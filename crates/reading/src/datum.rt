@@ -7,7 +7,7 @@ ghost use Rattle.shorthand.specs.Facts.{Widths};
 ghost use Rattle.reading.specs.Figures.{signed, mayStand, mayMiss};
 ghost use Rattle.rows.specs.declared.Next.the-variants.{Row};
 ghost use Rattle.reading.specs.Parse.{missingOf, signedValue, meant, dataAt, wordAt};
-ghost use Rattle.reading.specs.Front.{rowsAt, signTold, meantTold, magnitudeAt, dataTold, wordTold};
+ghost use Rattle.reading.specs.Front.{rowsAt, signTold, pastSign, meantTold, magnitudeAt, dataTold, wordTold};
 use crate::DataRead;
 use crate::FiguresRead;
 use crate::Meant;
@@ -59,12 +59,12 @@ fn may_miss(kind: Kind) -> bool
 
 // The sign right after an address, or its absence.
 fn read_sign(tape: &[u8], kind: Kind, front: Next) -> SignRead
-    ensures { λ r. ⌜ signTold (now (tape .entry)) r ≡ signed (length (now (tape .entry))) (signOf kind) (rowsAt (now (tape .entry)) front) ⌝ }
+    ensures { λ r. ⌜ signTold (rowsAt (now (tape .entry)) front) r ≡ signed (length (now (tape .entry))) (signOf kind) (rowsAt (now (tape .entry)) front) ⌝ }
 {
     let Next::Row {
         character,
         place,
-        after,
+        after: _,
     } = front
     else {
         return SignRead::Refused(Refusal {
@@ -75,18 +75,36 @@ fn read_sign(tape: &[u8], kind: Kind, front: Next) -> SignRead
     match character {
         43 | 45 => {
             if may_stand(kind) {
-                SignRead::Minus(character == 45, rows::next_kept(tape, after))
+                SignRead::Minus(character == 45)
             } else {
                 SignRead::Refused(Refusal { number: 12, place })
             }
         }
         _ => {
             if may_miss(kind) {
-                SignRead::Minus(false, front)
+                SignRead::Minus(false)
             } else {
                 SignRead::Refused(Refusal { number: 12, place })
             }
         }
+    }
+}
+
+// The row behind the sign, where one stands.
+fn pass_sign(tape: &[u8], front: Next) -> Next
+    ensures { λ r. ⌜ rowsAt (now (tape .entry)) r ≡ pastSign (rowsAt (now (tape .entry)) front) ⌝ }
+{
+    let Next::Row {
+        character,
+        place: _,
+        after,
+    } = front
+    else {
+        return front;
+    };
+    match character {
+        43 | 45 => rows::next_kept(tape, after),
+        _ => front,
     }
 }
 
@@ -161,7 +179,7 @@ fn read_data(tape: &[u8], at: usize, kind: Kind, front: Next) -> DataRead
     ensures { λ r. ⌜ dataTold (now (tape .entry)) r ≡ dataAt (length (now (tape .entry))) at kind (rowsAt (now (tape .entry)) front) ⌝ }
 {
     match read_sign(tape, kind, front) {
-        SignRead::Minus(minus, rest) => read_magnitude(tape, at, kind, minus, rest),
+        SignRead::Minus(minus) => { read_magnitude(tape, at, kind, minus, pass_sign(tape, front)) }
         SignRead::Refused(r) => DataRead::Refused(r),
     }
 }

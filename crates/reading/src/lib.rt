@@ -59,7 +59,7 @@ pub enum FiguresRead {
 }
 
 pub enum SignRead {
-    Minus(bool, Next),
+    Minus(bool),
     Refused(Refusal),
 }
 
@@ -83,6 +83,13 @@ pub enum Reach {
     Stops,
     Out(Next),
     At(usize, usize),
+}
+
+// What is passed by and not kept, an item or the start of a block: nothing is there to be passed, or the row behind it.
+pub enum Passed {
+    Nothing,
+    Behind(Next),
+    Refused(Refusal),
 }
 
 pub enum WordsRead {

@@ -15,11 +15,15 @@ use crate::Counted;
 use crate::EndRead;
 use crate::Fetch;
 use crate::Part;
+use crate::Passed;
 use crate::Survey;
 use crate::blocks::empty_block;
 use crate::blocks::gather_block;
+use crate::blocks::open_block;
 use crate::blocks::pass_block;
 use crate::blocks::read_head;
+use crate::figures::read_end;
+use crate::words::pass_item;
 use rows::Checked;
 use rows::Next;
 use rows::Refusal;
@@ -43,40 +47,71 @@ fn pick_part(hit: bool, new: Part, old: Part) -> Part
     if hit { new } else { old }
 }
 
-// All blocks from a row on: their number, and where the rows of block n stand.
+// All blocks from a row on: their number, and where the rows of block n stand. It goes item by item and not block by block, so that the Format is
+// handed on nowhere.
 fn survey_blocks(tape: &[u8], format: Format, n: usize, first: usize, start: Next) -> Survey
     requires { ⌜ Facts format ⌝ }
     requires { ⌜ Rising (length (now tape)) first (rowsAt (now tape) start) ⌝ }
     ensures count { λ r. ⌜ countTold (r .count) ≡ sizeOf (blocksAt (length (rowsAt (now (tape .entry)) start)) (length (now (tape .entry))) format first (rowsAt (now (tape .entry)) start)) ⌝ }
     ensures part { λ r. ⌜ r .part ≡ partIn n (blocksAt (length (rowsAt (now (tape .entry)) start)) (length (now (tape .entry))) format first (rowsAt (now (tape .entry)) start)) ⌝ }
 {
+    let items = format.count;
     let mut front = start;
     let mut from = first;
     let mut count: usize = 0;
     let mut part = Part { from: 0, to: 0 };
-    loop {
-        let Next::Row {
-            character: _,
-            place: _,
-            after: _,
-        } = front
-        else {
-            return Survey {
-                count: Counted::Blocks(count),
-                part,
-            };
-        };
-        let end = pass_block(tape, format, front);
-        let EndRead::At(lf, next) = end else {
-            return Survey {
-                count: Counted::Refused(end_refusal(end)),
-                part: Part { from: 0, to: 0 },
-            };
-        };
-        part = pick_part(count == n, Part { from, to: lf + 1 }, part);
-        from = lf + 1;
-        count += 1;
-        front = next;
+    let mut closed = true;
+    let mut k: usize = 0;
+    let refusal = loop {
+        if closed {
+            match open_block(tape, format.sequence as usize, front) {
+                Passed::Nothing => {
+                    return Survey {
+                        count: Counted::Blocks(count),
+                        part,
+                    };
+                }
+                Passed::Behind(next) => {
+                    front = next;
+                    closed = false;
+                    k = 0;
+                }
+                Passed::Refused(r) => {
+                    break r;
+                }
+            }
+        } else if k < items {
+            let item = format.items[k];
+            match pass_item(tape, format.dots, item, front) {
+                Passed::Nothing => {
+                    k = items;
+                }
+                Passed::Behind(next) => {
+                    front = next;
+                    k += 1;
+                }
+                Passed::Refused(r) => {
+                    break r;
+                }
+            }
+        } else {
+            match read_end(tape, front, 14, 10) {
+                EndRead::At(lf, next) => {
+                    part = pick_part(count == n, Part { from, to: lf + 1 }, part);
+                    from = lf + 1;
+                    count += 1;
+                    front = next;
+                    closed = true;
+                }
+                EndRead::Refused(r) => {
+                    break r;
+                }
+            }
+        }
+    };
+    Survey {
+        count: Counted::Refused(refusal),
+        part: Part { from: 0, to: 0 },
     }
 }
 

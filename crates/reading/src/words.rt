@@ -5,13 +5,14 @@ ghost use mathlib.Core.List.{List, []};
 ghost use Prim.Native.Nat.{ℕ, _+_, _<_};
 ghost use lib.ListN.{length, set};
 ghost use Rattle.shorthand.specs.Layout.{itemsOf};
-ghost use Rattle.shorthand.specs.Facts.{Facts};
+ghost use Rattle.shorthand.specs.Facts.{Facts, Widths};
 ghost use Rattle.reading.specs.Record.{blockOf};
 ghost use Rattle.reading.specs.Figures.{fronts};
 ghost use Rattle.reading.specs.Parse.{wordsAt};
-ghost use Rattle.reading.specs.Front.{rowsAt, wordRefusal, Standing, standing, reachTold, restTold, restOf, gatheredIn};
+ghost use Rattle.reading.specs.Front.{rowsAt, wordRefusal, Standing, standing, reachTold, itemAt, passedTold, restTold, restOf, gatheredIn};
 use crate::Block;
 use crate::Gathered;
+use crate::Passed;
 use crate::Reach;
 use crate::Value;
 use crate::Word;
@@ -21,6 +22,7 @@ use crate::datum::read_word;
 use rows::Next;
 use rows::Refusal;
 use shorthand::Format;
+use shorthand::Item;
 
 fn word_refusal(answer: WordRead) -> Refusal
     ensures { λ r. ⌜ r ≡ wordRefusal answer ⌝ }
@@ -74,6 +76,21 @@ fn reach_item(tape: &[u8], dots: bool, letter: u8, front: Next) -> Reach
     at_letter(letter, front)
 }
 
+// One item: its word read and not kept, where it stands.
+pub fn pass_item(tape: &[u8], dots: bool, item: Item, front: Next) -> Passed
+    requires { ⌜ Widths (item .kind) ⌝ }
+    ensures { λ r. ⌜ passedTold (now (tape .entry)) r ≡ itemAt (length (now (tape .entry))) dots item (rowsAt (now (tape .entry)) front) ⌝ }
+{
+    match reach_item(tape, dots, item.letter, front) {
+        Reach::Stops => Passed::Nothing,
+        Reach::Out(next) => Passed::Behind(next),
+        Reach::At(place, after) => match read_word(tape, item, place, after) {
+            WordRead::Is(_, rest) => Passed::Behind(rest),
+            WordRead::Refused(r) => Passed::Refused(r),
+        },
+    }
+}
+
 // The words of a block, each read and none kept.
 pub fn pass_words(tape: &[u8], format: Format, start: Next) -> WordsRead
     requires { ⌜ Facts format ⌝ }
@@ -85,22 +102,18 @@ pub fn pass_words(tape: &[u8], format: Format, start: Next) -> WordsRead
     let mut k: usize = 0;
     while k < count {
         let item = format.items[k];
-        k += 1;
-        match reach_item(tape, dots, item.letter, front) {
-            Reach::Stops => {
+        match pass_item(tape, dots, item, front) {
+            Passed::Nothing => {
                 return WordsRead::Done(front);
             }
-            Reach::Out(next) => {
+            Passed::Behind(next) => {
                 front = next;
             }
-            Reach::At(place, after) => {
-                let answer = read_word(tape, item, place, after);
-                let WordRead::Is(_, rest) = answer else {
-                    return WordsRead::Refused(word_refusal(answer));
-                };
-                front = rest;
+            Passed::Refused(r) => {
+                return WordsRead::Refused(r);
             }
         }
+        k += 1;
     }
     WordsRead::Done(front)
 }

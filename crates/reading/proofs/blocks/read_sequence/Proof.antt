@@ -1,8 +1,8 @@
 -- `reading::blocks::read_sequence`: the row fetched is given, and whether it is N or ":".
-use mathlib.Core.Path.{_∙_}
+use mathlib.Core.Path.{_∙_, sym}
 use borrow.Author.Needs.{needs}
-use borrow.Author.Tests.{ne-eqb}
 use Rattle.reading.proofs.Fetched.{fetched}
+use Rattle.reading.proofs.Started.{marked, unmarked}
 use Rattle.reading.proofs.blocks.read_sequence.Statement.{statement}
 use Rattle.reading.proofs.blocks.read_sequence.Tie as tie
 
@@ -21,20 +21,11 @@ next-kept-requires c κs = search needs
 read-number-requires : tie.Need-read-number-requires
 read-number-requires c κs = search needs
 
-next-kept-requires-2 : tie.Need-next-kept-requires-2
-next-kept-requires-2 c κs = search needs
-
-read-number-requires-2 : tie.Need-read-number-requires-2
-read-number-requires-2 c κs = search needs
-
 returns-2 : tie.Need-returns-2
-returns-2 c = c .read-number .ensures ∙ rw (c .before .before .before .before .front .given .1, c .before .before .match2 .keys1, fetched _ _ _ (c .before .next-kept .ensures))
+returns-2 c = c .read-number .ensures ∙ rw (c .before .before .before .before .front .given .1, fetched _ _ _ (c .before .next-kept .ensures)) (sym (marked _ _ _ _ _ _ (c .before .before .match2 .keys1)))
 
 returns-3 : tie.Need-returns-3
-returns-3 c = c .read-number2 .ensures ∙ rw (c .before .before .before .before .front .given .1, c .before .before .match2 .keys2, fetched _ _ _ (c .before .next-kept2 .ensures))
-
-returns-4 : tie.Need-returns-4
-returns-4 c = rw (c .before .before .front .given .1, ne-eqb _ _ (c .match2 .rest .0 .1), ne-eqb _ _ (c .match2 .rest .1))
+returns-3 c = rw (c .before .before .front .given .1) (sym (unmarked _ _ _ _ _ _ (c .match2 .rest .1)))
 
 pub read-sequence-spec : {M : Type 1} → statement M
 read-sequence-spec =
@@ -45,8 +36,5 @@ read-sequence-spec =
     returns
     next-kept-requires
     read-number-requires
-    next-kept-requires-2
-    read-number-requires-2
     returns-2
-    returns-3
-    returns-4)
+    returns-3)

@@ -12,6 +12,9 @@ read-sign-requires c κs = search needs
 enum-known-minus : tie.Need-enum-known-minus
 enum-known-minus c = search needs
 
+pass-sign-requires : tie.Need-pass-sign-requires
+pass-sign-requires c κs = search needs
+
 read-magnitude-requires : tie.Need-read-magnitude-requires
 read-magnitude-requires c κs = search needs
 
@@ -21,7 +24,7 @@ enum-known-r c = search needs
 returns : tie.Need-returns
 unfolding dataAt
 returns c =
-    rw (sym (c .before .before .before .before .read-sign .ensures) ∙ ap (signTold _) (c .before .before .minus .given .1)) (c .read-magnitude .ensures)
+    rw (sym (c .before .before .before .before .before .read-sign .ensures) ∙ ap (signTold _) (c .before .before .before .minus .given .1), sym (c .before .pass-sign .ensures)) (c .read-magnitude .ensures)
 
 returns-2 : tie.Need-returns-2
 unfolding dataAt
@@ -33,6 +36,7 @@ read-data-spec =
     (tie.spec
     read-sign-requires
     enum-known-minus
+    pass-sign-requires
     read-magnitude-requires
     enum-known-r
     returns

@@ -1,7 +1,6 @@
 -- `reading::datum::read_sign`: each way out rewrites the definition by the row found there and what the item allows.
 use mathlib.Core.Path.{_∙_, sym}
 use borrow.Author.Needs.{needs}
-use Rattle.reading.proofs.Fetched.{fetched}
 use Rattle.reading.proofs.Signs.{sign, no-sign}
 use Rattle.reading.proofs.datum.read_sign.Statement.{statement}
 use Rattle.reading.proofs.datum.read_sign.Tie as tie
@@ -18,17 +17,13 @@ returns c = rw (c .enum-told .given .1)
 may-stand-requires : tie.Need-may-stand-requires
 may-stand-requires c κs = search needs
 
-next-kept-requires : tie.Need-next-kept-requires
-next-kept-requires c κs = search needs
-
 may-miss-requires : tie.Need-may-miss-requires
 may-miss-requires c κs = search needs
 
 returns-2 : tie.Need-returns-2
 returns-2 c =
-    let arm = c .before .before .before in
-    rw
-    (arm .before .before .front .given .1, sign _ (arm .match2 .keys1), sym (c .before .before .may-stand .ensures) ∙ c .before .if1 .taken, fetched _ _ _ (c .next-kept .ensures))
+    let arm = c .before .before in
+    rw (arm .before .before .front .given .1, sign _ (arm .match2 .keys1), sym (c .before .may-stand .ensures) ∙ c .if1 .taken)
 
 returns-3 : tie.Need-returns-3
 returns-3 c =
@@ -53,7 +48,6 @@ read-sign-spec =
     enum-told
     returns
     may-stand-requires
-    next-kept-requires
     may-miss-requires
     returns-2
     returns-3
