@@ -8,4 +8,5 @@ pub mod Parity
 pub mod Formed
 pub mod OneAnswer
 pub mod Judged
+pub mod StageOrder
 pub mod KeptRows

@@ -69,3 +69,7 @@ inLimit t = cond (ltb limit (length t)) (refused 4 limit) (taken tt)
 -- 4, then 5, then 6, then 7; a stage starts only when the one before has passed the whole tape
 unfoldable pub judged : List ℕ → Answer (Unit {0})
 judged t = inLimit t >> refuseAt 5 (barred 5 t) >> refuseAt 6 (barred 6 t) >> refuseAt 7 (scan Outside 0 t)
+
+-- 5 and then 6 by themselves
+abbrev pub rowsJudged : List ℕ → Answer (Unit {0})
+rowsJudged t = refuseAt 5 (barred 5 t) >> refuseAt 6 (barred 6 t)

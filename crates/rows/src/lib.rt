@@ -1,10 +1,12 @@
 // Rows and characters: the table of all 256 rows, the first three stages of reading, and the rows that are kept.
 ghost use mathlib.Core.Path.{_≡_};
-ghost use Prim.Native.Nat.{_+_};
+ghost use mathlib.Core.Bool.{_||_};
+ghost use Prim.Native.Nat.{_+_, _≤_};
 ghost use lib.Dec.{eqb};
+ghost use lib.ListN.{drop};
 ghost use Rattle.rows.specs.Answer.{told};
 ghost use Rattle.rows.specs.Row.{entry, Tabulated, even};
-ghost use Rattle.rows.specs.Stages.{lowest, step, unclosed, scan, judged};
+ghost use Rattle.rows.specs.Stages.{lowest, step, unclosed, scan, rowsJudged, judged};
 ghost use Rattle.rows.specs.Kept.{turn, keptAt, firstOf};
 
 mod table;
@@ -94,14 +96,15 @@ pub fn entry_of(row: u8) -> u8
     look_up(&table[..], row)
 }
 
-// The lowest row whose entry is the wanted one.
-fn find_entry(tape: &[u8], table: &[u8], wanted: u8) -> Found
+// The lowest row whose entry is one of two.
+fn find_entry(tape: &[u8], table: &[u8], one: u8, other: u8) -> Found
     requires { ⌜ Tabulated (now table) ⌝ }
-    ensures { λ r. ⌜ r ≡ lowest (λ b. eqb (entry b) wanted) 0 (now (tape .entry)) ⌝ }
+    ensures { λ r. ⌜ r ≡ lowest (λ b. eqb (entry b) one || eqb (entry b) other) 0 (now (tape .entry)) ⌝ }
 {
     let mut i = 0;
     while i < tape.len() {
-        if look_up(table, tape[i]) == wanted {
+        let entry = look_up(table, tape[i]);
+        if entry == one || entry == other {
             return Found::At(i);
         }
         i += 1;
@@ -141,12 +144,42 @@ fn left_open(side: Side) -> Found
     }
 }
 
+// The next "(" or ")" from a place on, or the end of the tape: outside, the scan passes all before it by.
+fn find_bracket(tape: &[u8], at: usize) -> usize
+    ensures on { λ r. ⌜ at ≤ r ⌝ }
+    ensures scan { λ r. ⌜ scan Side.Outside at (drop at (now (tape .entry))) ≡ scan Side.Outside r (drop r (now (tape .entry))) ⌝ }
+{
+    let mut i = at;
+    while i < tape.len() {
+        match tape[i] % 128 {
+            40 | 41 => {
+                return i;
+            }
+            _ => {}
+        }
+        i += 1;
+    }
+    i
+}
+
+// The next row that the scan has to look at.
+fn pass_plain(tape: &[u8], side: Side, at: usize) -> usize
+    ensures on { λ r. ⌜ at ≤ r ⌝ }
+    ensures scan { λ r. ⌜ scan side at (drop at (now (tape .entry))) ≡ scan side r (drop r (now (tape .entry))) ⌝ }
+{
+    match side {
+        Side::Outside => find_bracket(tape, at),
+        Side::Inside(_) => at,
+        Side::Spoilt(_, _) => at,
+    }
+}
+
 // The lowest fault of the control-outs.
 fn find_fault(tape: &[u8]) -> Found
     ensures { λ r. ⌜ r ≡ scan Side.Outside 0 (now (tape .entry)) ⌝ }
 {
     let mut side = Side::Outside;
-    let mut i = 0;
+    let mut i = find_bracket(tape, 0);
     while i < tape.len() {
         match step_over(side, i, tape[i] % 128) {
             Step::On(m) => {
@@ -156,9 +189,26 @@ fn find_fault(tape: &[u8]) -> Found
                 return Found::At(p);
             }
         }
-        i += 1;
+        i = pass_plain(tape, side, i + 1);
     }
     left_open(side)
+}
+
+// The parity and then the characters of a whole tape. A tape that passes is walked over once for both.
+fn check_rows(tape: &[u8]) -> Checked
+    ensures { λ r. ⌜ told r ≡ rowsJudged (now (tape .entry)) ⌝ }
+{
+    let table = lay_out();
+    let Found::At(_) = find_entry(tape, &table[..], ODD, FOREIGN) else {
+        return Checked::Clean;
+    };
+    if let Found::At(place) = find_entry(tape, &table[..], ODD, ODD) {
+        return Checked::Refused(Refusal { number: 5, place });
+    }
+    if let Found::At(place) = find_entry(tape, &table[..], FOREIGN, FOREIGN) {
+        return Checked::Refused(Refusal { number: 6, place });
+    }
+    Checked::Clean
 }
 
 // Stages 1 to 3 of a whole tape, in document 01's order.
@@ -171,12 +221,8 @@ pub fn check(tape: &[u8]) -> Checked
             place: LIMIT,
         });
     }
-    let table = lay_out();
-    if let Found::At(place) = find_entry(tape, &table[..], ODD) {
-        return Checked::Refused(Refusal { number: 5, place });
-    }
-    if let Found::At(place) = find_entry(tape, &table[..], FOREIGN) {
-        return Checked::Refused(Refusal { number: 6, place });
+    if let Checked::Refused(r) = check_rows(tape) {
+        return Checked::Refused(r);
     }
     if let Found::At(place) = find_fault(tape) {
         return Checked::Refused(Refusal { number: 7, place });
