@@ -11,6 +11,7 @@ use Rattle.rows.specs.declared.Next.the-variants.{Row}
 use Rattle.reading.specs.declared.Value.{Value}
 use Rattle.reading.specs.declared.Word.{Word}
 use Rattle.reading.specs.declared.Digits.{Digits}
+use Rattle.reading.specs.declared.EndFound.{EndFound}
 use Rattle.reading.specs.declared.EndRead.{EndRead}
 use Rattle.reading.specs.declared.FiguresRead.{FiguresRead}
 use Rattle.reading.specs.declared.SignRead.{SignRead}
@@ -46,6 +47,10 @@ digitFront (Row c p a) = isDigit c
 
 abbrev pub digitsTold : List ℕ → Digits → Run
 digitsTold t d = record { number = d .number; count = d .count; rest = rowsAt t (d .front) }
+
+abbrev pub foundTold : List ℕ → EndFound → Answer (Behind ℕ)
+foundTold t (EndFound.At p after) = taking p (keptAt t after)
+foundTold t (EndFound.Refused r) = refusal r
 
 abbrev pub endTold : List ℕ → EndRead → Answer (Behind ℕ)
 endTold t (EndRead.At p front) = taking p (rowsAt t front)

@@ -4,9 +4,11 @@ ghost use Prim.Native.Nat.{_*_, _^_, _≤_, _<_};
 ghost use lib.ListN.{length};
 ghost use mathlib.Core.List.{[]};
 ghost use Rattle.rows.specs.Answer.{refusal};
+ghost use Rattle.rows.specs.Kept.{keptAt, firstOf};
 ghost use Rattle.reading.specs.Figures.{wrong, afterCR, ended, run, fewest, restored, figures};
-ghost use Rattle.reading.specs.Front.{rowsAt, digitFront, digitsTold, endTold, figuresTold};
+ghost use Rattle.reading.specs.Front.{rowsAt, digitFront, digitsTold, foundTold, endTold, figuresTold};
 use crate::Digits;
+use crate::EndFound;
 use crate::EndRead;
 use crate::FiguresRead;
 use rows::Next;
@@ -34,8 +36,8 @@ fn refuse_front(tape: &[u8], front: Next, short: u32, other: u32) -> Refusal
 }
 
 // The LF that must stand behind a CR.
-fn behind_cr(tape: &[u8], cr: usize, front: Next, short: u32, other: u32) -> EndRead
-    ensures { λ r. ⌜ endTold (now (tape .entry)) r ≡ afterCR (length (now (tape .entry))) short other (record { place = cr; char = 13 }) (rowsAt (now (tape .entry)) front) ⌝ }
+fn behind_cr(tape: &[u8], cr: usize, front: Next, short: u32, other: u32) -> EndFound
+    ensures { λ r. ⌜ foundTold (now (tape .entry)) r ≡ afterCR (length (now (tape .entry))) short other (record { place = cr; char = 13 }) (rowsAt (now (tape .entry)) front) ⌝ }
 {
     let Next::Row {
         character,
@@ -43,15 +45,15 @@ fn behind_cr(tape: &[u8], cr: usize, front: Next, short: u32, other: u32) -> End
         after,
     } = front
     else {
-        return EndRead::Refused(Refusal {
+        return EndFound::Refused(Refusal {
             number: short,
             place: tape.len(),
         });
     };
     if character == 10 {
-        EndRead::At(place, rows::next_kept(tape, after))
+        EndFound::At(place, after)
     } else {
-        EndRead::Refused(Refusal {
+        EndFound::Refused(Refusal {
             number: other,
             place: cr,
         })
@@ -59,8 +61,8 @@ fn behind_cr(tape: &[u8], cr: usize, front: Next, short: u32, other: u32) -> End
 }
 
 // An end: LF, or CR directly before LF.
-pub fn read_end(tape: &[u8], front: Next, short: u32, other: u32) -> EndRead
-    ensures { λ r. ⌜ endTold (now (tape .entry)) r ≡ ended (length (now (tape .entry))) short other (rowsAt (now (tape .entry)) front) ⌝ }
+pub fn find_end(tape: &[u8], front: Next, short: u32, other: u32) -> EndFound
+    ensures { λ r. ⌜ foundTold (now (tape .entry)) r ≡ ended (length (now (tape .entry))) short other (rowsAt (now (tape .entry)) front) ⌝ }
 {
     let Next::Row {
         character,
@@ -68,19 +70,49 @@ pub fn read_end(tape: &[u8], front: Next, short: u32, other: u32) -> EndRead
         after,
     } = front
     else {
-        return EndRead::Refused(Refusal {
+        return EndFound::Refused(Refusal {
             number: short,
             place: tape.len(),
         });
     };
     match character {
-        10 => EndRead::At(place, rows::next_kept(tape, after)),
+        10 => EndFound::At(place, after),
         13 => behind_cr(tape, place, rows::next_kept(tape, after), short, other),
-        _ => EndRead::Refused(Refusal {
+        _ => EndFound::Refused(Refusal {
             number: other,
             place,
         }),
     }
+}
+
+// The same with the row behind it.
+pub fn read_end(tape: &[u8], front: Next, short: u32, other: u32) -> EndRead
+    ensures { λ r. ⌜ endTold (now (tape .entry)) r ≡ ended (length (now (tape .entry))) short other (rowsAt (now (tape .entry)) front) ⌝ }
+{
+    match find_end(tape, front, short, other) {
+        EndFound::At(lf, after) => EndRead::At(lf, rows::next_kept(tape, after)),
+        EndFound::Refused(r) => EndRead::Refused(r),
+    }
+}
+
+// The next kept row. Behind a digit it is most often the next row, another digit.
+fn next_digit(tape: &[u8], at: usize) -> Next
+    ensures { λ r. ⌜ r ≡ firstOf (keptAt (now (tape .entry)) at) ⌝ }
+{
+    if at < tape.len() {
+        let c = tape[at] % 128;
+        match c {
+            48..=57 => {
+                return Next::Row {
+                    character: c,
+                    place: at,
+                    after: at + 1,
+                };
+            }
+            _ => {}
+        }
+    }
+    rows::next_kept(tape, at)
 }
 
 // At most so many digits.
@@ -116,7 +148,7 @@ fn read_digits(tape: &[u8], start: Next, most: usize) -> Digits
         }
         number = number * 10 + (character - 48) as u64;
         count += 1;
-        front = rows::next_kept(tape, after);
+        front = next_digit(tape, after);
     }
     Digits {
         number,

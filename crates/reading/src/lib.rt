@@ -42,6 +42,12 @@ pub struct Block {
 
 // ---- what the parsers answer: a value with the next kept row, or a refusal
 
+// The place of an end's LF, and the place after it.
+pub enum EndFound {
+    At(usize, usize),
+    Refused(Refusal),
+}
+
 pub enum EndRead {
     At(usize, Next),
     Refused(Refusal),

@@ -12,6 +12,7 @@ ghost use Rattle.reading.specs.Front.{rowsAt, endTold, endRefusal, lfOf,
 use crate::Block;
 use crate::BlockGathered;
 use crate::Counted;
+use crate::EndFound;
 use crate::EndRead;
 use crate::Fetch;
 use crate::Part;
@@ -22,7 +23,7 @@ use crate::blocks::gather_block;
 use crate::blocks::open_block;
 use crate::blocks::pass_block;
 use crate::blocks::read_head;
-use crate::figures::read_end;
+use crate::figures::find_end;
 use crate::words::pass_item;
 use rows::Checked;
 use rows::Next;
@@ -95,15 +96,15 @@ fn survey_blocks(tape: &[u8], format: Format, n: usize, first: usize, start: Nex
                 }
             }
         } else {
-            match read_end(tape, front, 14, 10) {
-                EndRead::At(lf, next) => {
+            match find_end(tape, front, 14, 10) {
+                EndFound::At(lf, after) => {
                     part = pick_part(count == n, Part { from, to: lf + 1 }, part);
                     from = lf + 1;
                     count += 1;
-                    front = next;
+                    front = rows::next_kept(tape, after);
                     closed = true;
                 }
-                EndRead::Refused(r) => {
+                EndFound::Refused(r) => {
                     break r;
                 }
             }

@@ -63,8 +63,8 @@ add-number c = omega (arith, next c)
 add-count : tie.Need-add-count Inv-loop μ-loop
 add-count c = search needs
 
-next-kept-requires : tie.Need-next-kept-requires Inv-loop μ-loop
-next-kept-requires c κs = search needs
+next-digit-requires : tie.Need-next-digit-requires Inv-loop μ-loop
+next-digit-requires c κs = search needs
 
 loop-less : tie.Need-loop-less Inv-loop μ-loop
 loop-less c = search needs
@@ -75,7 +75,7 @@ loop-again c =
     let row = on .before .before .before .front .given in
     let turn = on .before .before .before .before .before .before .loop in (
       turn .inv .0
-          ∙ rw (row .1, fetched _ _ _ (c .next-kept .ensures))
+          ∙ rw (row .1, fetched _ _ _ (c .next-digit .ensures))
           (run-on _ _ _ _ _ _ (on .before .before .before .before .before .loop-test .taken) (digit (row .0 .0) (omega arith) (omega arith))),
       rw add-one (one-more _ _ _ (turn .inv .1) (omega arith)),
       search needs,
@@ -100,7 +100,7 @@ read-digits-spec =
     cast-number
     add-number
     add-count
-    next-kept-requires
+    next-digit-requires
     loop-less
     loop-again
     returns-4)

@@ -1,49 +1,30 @@
--- `reading::figures::read_end`: each arm is given the character at the front, and what was fetched behind it are the kept rows behind it.
-use mathlib.Core.Path.{_∙_, ap}
+-- `reading::figures::read_end`: by the end that was found, and the row fetched behind it.
+use mathlib.Core.Path.{_∙_, sym, ap}
 use borrow.Author.Needs.{needs}
-use borrow.Author.Tests.{ne-eqb}
-use Rattle.reading.specs.Figures.{afterCR}
+use Rattle.reading.specs.Figures.{taking}
+use Rattle.reading.specs.Front.{foundTold}
 use Rattle.reading.proofs.Fetched.{fetched}
 use Rattle.reading.proofs.figures.read_end.Statement.{statement}
 use Rattle.reading.proofs.figures.read_end.Tie as tie
 
-enum-known-front : tie.Need-enum-known-front
-enum-known-front c = search needs
+find-end-requires : tie.Need-find-end-requires
+find-end-requires c κs = search needs
 
-enum-told : tie.Need-enum-told
-enum-told c = search needs
-
-returns : tie.Need-returns
-returns c = rw (c .enum-told .given .1)
+enum-known-lf : tie.Need-enum-known-lf
+enum-known-lf c = search needs
 
 next-kept-requires : tie.Need-next-kept-requires
 next-kept-requires c κs = search needs
 
-next-kept-requires-2 : tie.Need-next-kept-requires-2
-next-kept-requires-2 c κs = search needs
+enum-known-r : tie.Need-enum-known-r
+enum-known-r c = search needs
 
-behind-cr-requires : tie.Need-behind-cr-requires
-behind-cr-requires c κs = search needs
+returns : tie.Need-returns
+returns c =
+    ap (taking _) (fetched _ _ _ (c .next-kept .ensures)) ∙ sym (ap (foundTold _) (c .before .before .lf .given .1)) ∙ c .before .before .before .before .find-end .ensures
 
 returns-2 : tie.Need-returns-2
-returns-2 c = rw (c .before .before .before .front .given .1, c .before .match2 .keys1, fetched _ _ _ (c .next-kept .ensures))
-
-returns-3 : tie.Need-returns-3
-returns-3 c = rw (c .before .before .before .before .front .given .1, c .before .before .match2 .keys2) (c .behind-cr .ensures ∙ ap (afterCR _ _ _ _) (fetched _ _ _ (c .before .next-kept2 .ensures)))
-
-returns-4 : tie.Need-returns-4
-returns-4 c = rw (c .before .before .front .given .1, ne-eqb _ _ (c .match2 .rest .0 .1), ne-eqb _ _ (c .match2 .rest .1))
+returns-2 c = sym (ap (foundTold _) (c .before .r .given .1)) ∙ c .before .before .before .find-end .ensures
 
 pub read-end-spec : {M : Type 1} → statement M
-read-end-spec =
-    tie.close
-    (tie.spec
-    enum-known-front
-    enum-told
-    returns
-    next-kept-requires
-    next-kept-requires-2
-    behind-cr-requires
-    returns-2
-    returns-3
-    returns-4)
+read-end-spec = tie.close (tie.spec find-end-requires enum-known-lf next-kept-requires enum-known-r returns returns-2)

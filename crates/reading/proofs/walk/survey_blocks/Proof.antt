@@ -6,8 +6,9 @@ use native.Mathlib.Omega.{arith}
 use lib.ListN.{length}
 use denote.Ref.{now}
 use borrow.Author.Needs.{needs}
-use Rattle.reading.specs.Front.{rowsAt, endTold, passedTold, partOf}
+use Rattle.reading.specs.Front.{rowsAt, foundTold, passedTold, partOf}
 use Rattle.reading.proofs.BlockWalk.{holds-none, holds-all, holds-next}
+use Rattle.reading.proofs.Fetched.{fetched}
 use Rattle.reading.proofs.InBlock.{Along, inside, still-inside, between, over, opens, opens-refused, ends, closes, block-refused, item-stops, item-behind, item-refused}
 use Rattle.reading.proofs.ItemSteps.{widths-at}
 use Rattle.reading.proofs.walk.survey_blocks.Statement.{statement}
@@ -28,7 +29,7 @@ bounds : (c : tie.After-known-told5 Inv-loop μ-loop) →
     (turn .count ≤ turn .from) × (turn .from ≤ lf) × (lf < length (now (c .before .before .before .before .before .before .before .before .args .tape)))
 bounds c =
     let g = inside _ _ _ _ _ _ _ _ (c .before .before .before .before .before .if1 .left) (c .before .before .before .before .before .before .loop .inv) in
-    let o = closes _ _ _ _ _ _ (c .before .before .before .before .before .before .before .before .pre .0) g (c .before .before .before .before .if2 .left) _ _ (sym (c .before .before .before .read-end .ensures) ∙ ap (endTold _) (c .before .lf .given .1)) in
+    let o = closes _ _ _ _ _ _ (c .before .before .before .before .before .before .before .before .pre .0) g (c .before .before .before .before .if2 .left) _ _ (sym (c .before .before .before .find-end .ensures) ∙ ap (foundTold _) (c .before .lf .given .1)) in
     (g .before .below, o .after, o .within)
 
 loop-holds : tie.Need-loop-holds Inv-loop μ-loop
@@ -91,8 +92,8 @@ loop-again-3 c = still-inside _ _ _ _ _ _ _ _ (c .before .before .before .before
 enum-known-r-2 : tie.Need-enum-known-r-2 Inv-loop μ-loop
 enum-known-r-2 c = search needs
 
-read-end-requires : tie.Need-read-end-requires Inv-loop μ-loop
-read-end-requires c κs = search needs
+find-end-requires : tie.Need-find-end-requires Inv-loop μ-loop
+find-end-requires c κs = search needs
 
 enum-known-lf : tie.Need-enum-known-lf Inv-loop μ-loop
 enum-known-lf c = search needs
@@ -109,11 +110,18 @@ add-from c = omega (arith, bounds (c .before) .2)
 add-count : tie.Need-add-count Inv-loop μ-loop
 add-count c = omega (arith, bounds (c .before))
 
+next-kept-requires : tie.Need-next-kept-requires Inv-loop μ-loop
+next-kept-requires c κs = search needs
+
 loop-less-4 : tie.Need-loop-less-4 Inv-loop μ-loop
-loop-less-4 c = let b = bounds (c .before) in rw (c .before .before .before .before .before .before .if1 .left) (omega (arith, b .1, b .2))
+loop-less-4 c = let b = bounds (c .before .before) in rw (c .before .before .before .before .before .before .before .if1 .left) (omega (arith, b .1, b .2))
 
 loop-again-4 : tie.Need-loop-again-4 Inv-loop μ-loop
-loop-again-4 c = let g = inside _ _ _ _ _ _ _ _ (c .before .before .before .before .before .before .if1 .left) (c .before .before .before .before .before .before .before .loop .inv) in holds-next _ _ _ _ _ _ (g .before) _ _ _ _ _ (closes _ _ _ _ _ _ (c .before .before .before .before .before .before .before .before .before .pre .0) g (c .before .before .before .before .before .if2 .left) _ _ (sym (c .before .before .before .before .read-end .ensures) ∙ ap (endTold _) (c .before .before .lf .given .1))) _ (c .pick-part .ensures)
+loop-again-4 c =
+    let g = inside _ _ _ _ _ _ _ _ (c .before .before .before .before .before .before .before .if1 .left) (c .before .before .before .before .before .before .before .before .loop .inv) in
+    let end = sym (c .before .before .before .before .before .find-end .ensures) ∙ ap (foundTold _) (c .before .before .before .lf .given .1) in
+    rw (fetched _ _ _ (c .next-kept .ensures))
+    (holds-next _ _ _ _ _ _ (g .before) _ _ _ _ _ (closes _ _ _ _ _ _ (c .before .before .before .before .before .before .before .before .before .before .pre .0) g (c .before .before .before .before .before .before .if2 .left) _ _ end) _ (c .before .pick-part .ensures))
 
 enum-known-r-3 : tie.Need-enum-known-r-3 Inv-loop μ-loop
 enum-known-r-3 c = search needs
@@ -125,7 +133,7 @@ returns-3 : tie.Need-returns-3 Inv-loop μ-loop
 returns-3 c = item-refused _ _ _ _ _ _ (c .before .before .before .before .before .before .before .before .before .pre .0) (inside _ _ _ _ _ _ _ _ (c .before .before .before .before .before .before .if1 .left) (c .before .before .before .before .before .before .before .loop .inv)) (c .before .before .before .before .before .if2 .taken) _ _ (sym (ap (passedTold _) (c .before .r2 .given .1)) ∙ c .before .before .before .pass-item .ensures) _ refl
 
 returns-4 : tie.Need-returns-4 Inv-loop μ-loop
-returns-4 c = let g = inside _ _ _ _ _ _ _ _ (c .before .before .before .before .before .if1 .left) (c .before .before .before .before .before .before .loop .inv) in block-refused _ _ _ _ _ _ (c .before .before .before .before .before .before .before .before .pre .0) g _ _ (ends _ _ _ _ _ _ (c .before .before .before .before .before .before .before .before .pre .0) g (c .before .before .before .before .if2 .left) ∙ (sym (c .before .before .before .read-end .ensures) ∙ ap (endTold _) (c .before .r3 .given .1))) _ refl
+returns-4 c = let g = inside _ _ _ _ _ _ _ _ (c .before .before .before .before .before .if1 .left) (c .before .before .before .before .before .before .loop .inv) in block-refused _ _ _ _ _ _ (c .before .before .before .before .before .before .before .before .pre .0) g _ _ (ends _ _ _ _ _ _ (c .before .before .before .before .before .before .before .before .pre .0) g (c .before .before .before .before .if2 .left) ∙ (sym (c .before .before .before .find-end .ensures) ∙ ap (foundTold _) (c .before .r3 .given .1))) _ refl
 
 pub survey-blocks-spec : {M : Type 1} → statement M
 survey-blocks-spec =
@@ -153,12 +161,13 @@ survey-blocks-spec =
     loop-less-3
     loop-again-3
     enum-known-r-2
-    read-end-requires
+    find-end-requires
     enum-known-lf
     add-t38
     pick-part-requires
     add-from
     add-count
+    next-kept-requires
     loop-less-4
     loop-again-4
     enum-known-r-3
