@@ -1,8 +1,8 @@
 // Rows and characters: the table of all 256 rows, the first three stages of reading, and the rows that are kept.
 ghost use mathlib.Core.Path.{_≡_};
-ghost use mathlib.Core.Bool.{_||_};
+ghost use mathlib.Core.Bool.{_&&_};
 ghost use Prim.Native.Nat.{_+_, _≤_};
-ghost use lib.Dec.{eqb};
+ghost use lib.Dec.{leb};
 ghost use lib.ListN.{drop};
 ghost use Rattle.rows.specs.Answer.{told};
 ghost use Rattle.rows.specs.Row.{entry, Tabulated, even};
@@ -67,6 +67,9 @@ const ODD: u8 = 133;
 
 const FOREIGN: u8 = 134;
 
+// What no entry of the table is above.
+const HIGHEST: u8 = 255;
+
 // Whether a row has an even number of holes, by the count itself and not by the table.
 pub fn has_even_holes(row: u8) -> bool
     ensures { λ r. ⌜ r ≡ even row ⌝ }
@@ -96,15 +99,15 @@ pub fn entry_of(row: u8) -> u8
     look_up(&table[..], row)
 }
 
-// The lowest row whose entry is one of two.
-fn find_entry(tape: &[u8], table: &[u8], one: u8, other: u8) -> Found
+// The lowest row whose entry is within a range.
+fn find_entry(tape: &[u8], table: &[u8], least: u8, most: u8) -> Found
     requires { ⌜ Tabulated (now table) ⌝ }
-    ensures { λ r. ⌜ r ≡ lowest (λ b. eqb (entry b) one || eqb (entry b) other) 0 (now (tape .entry)) ⌝ }
+    ensures { λ r. ⌜ r ≡ lowest (λ b. leb least (entry b) && leb (entry b) most) 0 (now (tape .entry)) ⌝ }
 {
     let mut i = 0;
     while i < tape.len() {
         let entry = look_up(table, tape[i]);
-        if entry == one || entry == other {
+        if least <= entry && entry <= most {
             return Found::At(i);
         }
         i += 1;
@@ -199,7 +202,7 @@ fn check_rows(tape: &[u8]) -> Checked
     ensures { λ r. ⌜ told r ≡ rowsJudged (now (tape .entry)) ⌝ }
 {
     let table = lay_out();
-    let Found::At(_) = find_entry(tape, &table[..], ODD, FOREIGN) else {
+    let Found::At(_) = find_entry(tape, &table[..], ODD, HIGHEST) else {
         return Checked::Clean;
     };
     if let Found::At(place) = find_entry(tape, &table[..], ODD, ODD) {

@@ -1,26 +1,26 @@
 -- `rows::find_entry` meets its contract: from row i on the lowest such row is the whole tape's.
 use mathlib.Core.Path.{_≡_, _∙_, sym}
 use mathlib.Core.Logic.{inl, inr}
-use mathlib.Core.Bool.{true, _||_}
+use mathlib.Core.Bool.{_&&_}
 use Prim.Native.Nat.{_-_, _≤_}
 use lib.ListN.{length, drop}
-use lib.Dec.{eqb}
+use lib.Dec.{leb}
 use borrow.Author.Needs.{needs}
-use borrow.Author.Tests.{eq-eqb, ne-eqb}
+use borrow.Author.Tests.{leb-true, leb-false}
 use Rattle.rows.specs.Row.{entry}
 use Rattle.rows.specs.Stages.{lowest}
-use Rattle.rows.proofs.StageOrder.{or-true}
+use Rattle.rows.proofs.StageOrder.{within-range, out-of-range}
 use Rattle.rows.proofs.Walks.{lowest-hit, lowest-miss, lowest-end}
 use Rattle.rows.proofs.find_entry.Statement.{statement}
 use Rattle.rows.proofs.find_entry.Tie as tie
 
 abbrev Inv-loop : tie.InvT-loop
-Inv-loop tape table one other i₀ i =
+Inv-loop tape table least most i₀ i =
     (i ≤ length tape)
-    × (lowest (λ b. eqb (entry b) one || eqb (entry b) other) 0 tape ≡ lowest (λ b. eqb (entry b) one || eqb (entry b) other) i (drop i tape))
+    × (lowest (λ b. leb least (entry b) && leb (entry b) most) 0 tape ≡ lowest (λ b. leb least (entry b) && leb (entry b) most) i (drop i tape))
 
 abbrev μ-loop : tie.MeasureT-loop
-μ-loop tape table one other i₀ i = length tape - i
+μ-loop tape table least most i₀ i = length tape - i
 
 loop-holds : tie.Need-loop-holds Inv-loop μ-loop
 loop-holds c = search needs
@@ -33,12 +33,10 @@ look-up-requires c κs = search needs
 
 returns : tie.Need-returns Inv-loop μ-loop
 returns c =
-    let given = c .before .before .before .before .before .before .before .args in
-    let e = c .before .look-up .result in
-    let hit : (eqb e (given .one) || eqb e (given .other)) ≡ true =
-    or-true (eqb e (given .one)) (eqb e (given .other)) (elim (c .if1 .came) [ inl x ↦ inl (eq-eqb _ _ (x .taken)) | inr x ↦ inr (x .1 .taken) ])
-    in
-    sym (c .before .before .before .before .loop .inv .1 ∙ lowest-hit _ _ _ (c .before .before .before .loop-test .taken) (rw (sym (c .before .look-up .ensures)) hit))
+    sym
+    (c .before .before .before .before .before .loop .inv .1
+    ∙ lowest-hit _ _ _ (c .before .before .before .before .loop-test .taken)
+    (rw (sym (c .before .before .look-up .ensures)) (within-range (c .before .before .before .before .before .before .before .before .args .least) (c .before .before .before .before .before .before .before .before .args .most) (c .before .before .look-up .result) (c .before .if1 .taken) (leb-true _ _ (c .if2 .taken)))))
 
 add-i : tie.Need-add-i Inv-loop μ-loop
 add-i c = search needs
@@ -49,7 +47,11 @@ loop-less c = search needs
 loop-again : tie.Need-loop-again Inv-loop μ-loop
 loop-again c = (
   search needs,
-  c .before .before .before .before .before .loop .inv .1 ∙ lowest-miss _ _ _ (c .before .before .before .before .loop-test .taken) (rw (sym (c .before .before .look-up .ensures), ne-eqb _ _ (c .before .if1 .left), c .if2 .left)),
+  c .before .before .before .before .loop .inv .1
+      ∙ lowest-miss _ _ _ (c .before .before .before .loop-test .taken)
+      (rw (sym (c .before .look-up .ensures))
+      (out-of-range (c .before .before .before .before .before .before .before .args .least) (c .before .before .before .before .before .before .before .args .most) (c .before .look-up .result)
+      (elim (c .if1 .came) [ inl x ↦ inl (x .0 .taken, leb-false _ _ (x .1 .left)) | inr x ↦ inr (x .left) ]))),
 )
 
 returns-2 : tie.Need-returns-2 Inv-loop μ-loop
