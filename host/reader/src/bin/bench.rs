@@ -101,20 +101,21 @@ impl Timer {
         Ok((Times { library: served.nanoseconds as f64, reader }, served.answer.number))
     }
 
-    /// A fault that only one stage sees, in the last row, ends the work when that stage has passed the tape.
+    /// A fault that only stage 3 sees ends the work there: in the first row when stages 1 and 2 have passed the tape,
+    /// in the last row when stage 3 has too.
     fn stages(&mut self, edition: u32, shorthand: &str) -> Result<(), Box<dyn Error>> {
         println!("rows per second on {MOST_ROWS} rows, each stage by itself:");
         let sound = tape(edition, MOST_ROWS);
+        let last = sound.len() - 1;
         let mut before = Times { library: 0.0, reader: 0.0 };
-        let faults =
-            [("1 parity", 5, Some(1)), ("2 characters", 6, Some(33)), ("3 control-outs", 7, Some(b'(')), ("4 blocks", 0, None)];
-        for (name, number, fault) in faults {
+        let faults = [("1 and 2, rows", Some((0, b')'))), ("3, control-outs", Some((last, b'('))), ("4, blocks", None)];
+        for (name, fault) in faults {
             let mut rows = sound.clone();
-            if let (Some(fault), Some(last)) = (fault, rows.last_mut()) {
-                *last = fault;
+            if let Some((place, character)) = fault {
+                rows[place] = punched(character);
             }
             let (times, found) = self.time(edition, shorthand, rows)?;
-            if found != number {
+            if found != fault.map_or(0, |_| 7) {
                 return Err(format!("stage {name} ended with {found}").into());
             }
             let line = format!(
