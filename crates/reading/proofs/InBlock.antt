@@ -14,9 +14,9 @@ use Rattle.shorthand.specs.Facts.{Facts}
 use Rattle.reading.specs.Figures.{Behind, taking, ended}
 use Rattle.reading.specs.Parse.{Entry, blockAt, blocksAt}
 use Rattle.reading.specs.Answers.{nowhere}
-use Rattle.reading.specs.Front.{lfOf, sizeOf, restOf, Begun, startAt, Passing, nothing, past, itemAt, openedAt}
+use Rattle.reading.specs.Front.{lfOf, sizeOf, restOf, Begun, startAt, nothing, past, itemAt, openedAt}
 use Rattle.reading.proofs.BlockWalk.{Onward, onward, Held, holds-refused}
-use Rattle.reading.proofs.ItemSteps.{restFrom, restPast, item-passed, none-left}
+use Rattle.reading.proofs.ItemSteps.{restFrom, item-passed, none-left}
 use Rattle.reading.proofs.Started.{start-refused, then-closes}
 
 -- ---- the end of the tape

@@ -13,7 +13,7 @@ use Rattle.rows.specs.Answer.{Answer, taken, refused, _>>_}
 use Rattle.rows.specs.Row.{entry}
 use Rattle.rows.specs.Stages.{limit, lowest, barred, scan, refuseAt, judged, rowsJudged}
 use Rattle.rows.specs.declared.Found.{Found}
-use Rattle.rows.specs.declared.Found.the-variants.{Nowhere, At}
+use Rattle.rows.specs.declared.Found.the-variants.{Nowhere}
 use Rattle.rows.specs.declared.Side.the-variants.{Outside}
 use Rattle.rows.proofs.Lowest.{lowest-none, none-lowest}
 use Rattle.rows.proofs.Every.{every-map}

@@ -1,5 +1,5 @@
 -- `reading::walk::survey_blocks`: the blocks passed so far are counted, and the part of block n among them is held, also inside the next block.
-use mathlib.Core.Path.{_≡_, _∙_, sym, ap, refl}
+use mathlib.Core.Path.{_∙_, sym, ap, refl}
 use mathlib.Core.Bool.{cond}
 use Prim.Native.Nat.{_+_, _-_, _*_, _≤_, _<_}
 use native.Mathlib.Omega.{arith}
