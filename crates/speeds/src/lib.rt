@@ -107,9 +107,11 @@ pub fn speed_of(digits: u32, code: u64) -> Speed
         }
     }
     let k = digits as usize;
-    let limit = ten(k);
-    let unit = ten(k - 1);
-    let least = ten(k - 2);
+    // laid out once for all four powers
+    let tens = TENS;
+    let limit = tens[k];
+    let unit = tens[k - 1];
+    let least = tens[k - 2];
     let others = code % unit;
     if code == 0 {
         Speed::Units(0)
@@ -119,7 +121,7 @@ pub fn speed_of(digits: u32, code: u64) -> Speed
         Speed::Refused(SECOND_ZERO)
     } else {
         let first = (code / unit) as usize;
-        let units = others * ten(first + 5 - k);
+        let units = others * tens[first + 5 - k];
         Speed::Units(units)
     }
 }

@@ -1,11 +1,12 @@
 -- `speeds::speed_of`: each test is one of the definition's, in its order, and the digits are those of the code.
-use Prim.Native.Nat.{_*_, _/_, _%_, _<_}
-use mathlib.Core.Path.{_≡_, sym}
+use Prim.Native.Nat.{_+_, _-_, _*_, _/_, _%_, _^_, _≤_, _<_}
+use mathlib.Core.Path.{_≡_, sym, subst}
 use native.Mathlib.Omega.{arith}
 use borrow.Author.Needs.{needs}
+use lib.ListN.{getD}
 use Rattle.rows.specs.Answer.{taken}
 use Rattle.speeds.specs.Meaning.{speedFor}
-use Rattle.speeds.proofs.Tens.{ten-positive}
+use Rattle.speeds.proofs.Tens.{ten-positive, powers, power-at}
 use Rattle.speeds.proofs.Answers.{speed-length-short, speed-length-long, speed-more-digits, speed-zeros}
 use Rattle.speeds.proofs.Bounds.{speed-under}
 use Rattle.speeds.proofs.Steps.{first-digit, second-zero, speed-is}
@@ -18,63 +19,75 @@ returns c = sym (speed-length-short _ _ (c .if1 .taken))
 returns-2 : tie.Need-returns-2
 returns-2 c = sym (speed-length-long _ _ (c .if2 .left))
 
-ten-requires : tie.Need-ten-requires
-ten-requires c κs = search needs
+mul-limit : tie.Need-mul-limit
+mul-limit c = search needs
 
-sub-ten : tie.Need-sub-ten
-sub-ten c = search needs
+array-read-limit : tie.Need-array-read-limit
+array-read-limit c = search needs
 
-ten-requires-2 : tie.Need-ten-requires-2
-ten-requires-2 c κs = search needs
+sub-unit : tie.Need-sub-unit
+sub-unit c = search needs
 
-sub-ten-2 : tie.Need-sub-ten-2
-sub-ten-2 c = search needs
+mul-unit : tie.Need-mul-unit
+mul-unit c = search needs
 
-ten-requires-3 : tie.Need-ten-requires-3
-ten-requires-3 c κs = search needs
+array-read-unit : tie.Need-array-read-unit
+array-read-unit c = search needs
+
+sub-least : tie.Need-sub-least
+sub-least c = search needs
+
+mul-least : tie.Need-mul-least
+mul-least c = search needs
+
+array-read-least : tie.Need-array-read-least
+array-read-least c = search needs
 
 rem-others : tie.Need-rem-others
-rem-others c = rw (c .before .ten2 .ensures) (ten-positive _)
+rem-others c = subst (λ x. 0 < x) (sym (power-at (c .before .before .args .digits - 1) (omega arith))) (ten-positive _)
 
-abbrev start : tie.Else5 → tie.Start
-start c = c .before .before .before .before .before .before .before .before
+short : (c : tie.Else4) → c .before .before .before .before .args .code < 10 ^ c .before .before .before .before .args .digits
+short c = subst (λ x. c .before .before .before .before .args .code < x) (power-at (c .before .before .before .before .args .digits) (omega arith)) (c .if4 .left)
+
+first : (c : tie.Else5) → c .before .before .before .before .before .args .code / getD powers (c .before .before .before .before .before .args .digits - 1) 0 < 10
+first c = first-digit (c .before .before .before .before .before .args .digits) (c .before .before .before .before .before .args .code) (omega arith) (omega arith) (short (c .before)) (power-at (c .before .before .before .before .before .args .digits - 1) (omega arith))
+
+meant : (c : tie.Else5) →
+    let unit = getD powers (c .before .before .before .before .before .args .digits - 1) 0 in
+    speedFor (c .before .before .before .before .before .args .digits) (c .before .before .before .before .before .args .code) ≡ taken (c .before .before .before .before .before .args .code % unit * getD powers (c .before .before .before .before .before .args .code / unit + 5 - c .before .before .before .before .before .args .digits) 0)
+meant c =
+    let least = subst (λ x. x ≤ c .before .before .before .before .before .args .code % getD powers (c .before .before .before .before .before .args .digits - 1) 0) (power-at (c .before .before .before .before .before .args .digits - 2) (omega arith)) (c .if5 .left) in
+    speed-is (c .before .before .before .before .before .args .digits) (c .before .before .before .before .before .args .code) (omega arith) (omega arith) (short (c .before)) (power-at (c .before .before .before .before .before .args .digits - 1) (omega arith)) least (power-at _ (omega (arith, first c)))
 
 div-first : tie.Need-div-first
 div-first c = rem-others (c .before .before .before)
 
-first : (c : tie.Else5) → start c .args .code / c .before .before .before .before .ten2 .result < 10
-first c =
-    first-digit (start c .args .digits) (start c .args .code) (omega arith) (omega arith) (omega arith)
-    (c .before .before .before .before .ten2 .ensures)
+add-units : tie.Need-add-units
+add-units c = omega (arith, first c)
 
-add-ten : tie.Need-add-ten
-add-ten c = omega (arith, first c)
-
-sub-ten-3 : tie.Need-sub-ten-3
-sub-ten-3 c = search needs
-
-ten-requires-4 : tie.Need-ten-requires-4
-ten-requires-4 c κs = omega (arith, first c)
-
-meant : (c : tie.After-ten4) →
-    let a = start (c .before) .args in
-    speedFor (a .digits) (a .code) ≡ taken (a .code % c .before .before .before .before .before .ten2 .result * c .ten4 .result)
-meant c =
-    speed-is _ _ (omega arith) (omega arith) (omega arith) (c .before .before .before .before .before .ten2 .ensures) (omega arith)
-    (c .ten4 .ensures)
+sub-units : tie.Need-sub-units
+sub-units c = search needs
 
 mul-units : tie.Need-mul-units
-mul-units c = omega (arith, speed-under _ _ _ (meant c))
+mul-units c = omega (arith, first c)
+
+array-read-units : tie.Need-array-read-units
+array-read-units c = omega (arith, first c)
+
+mul-units-2 : tie.Need-mul-units-2
+mul-units-2 c = omega (arith, speed-under _ _ _ (meant c))
 
 returns-3 : tie.Need-returns-3
 returns-3 c = rw (c .if3 .taken) (sym (speed-zeros _ (omega arith) (omega arith)))
 
 returns-4 : tie.Need-returns-4
-returns-4 c = sym (speed-more-digits _ _ (omega arith))
+returns-4 c = sym (speed-more-digits _ _ (subst (λ x. x ≤ c .before .before .before .before .args .code) (power-at (c .before .before .before .before .args .digits) (omega arith)) (c .if4 .taken)))
 
 returns-5 : tie.Need-returns-5
 returns-5 c =
-    sym (second-zero _ _ (omega arith) (omega arith) (omega arith) (c .before .before .before .before .ten2 .ensures) (omega arith) (omega arith))
+    let unit = power-at (c .before .before .before .before .before .args .digits - 1) (omega arith) in
+    let least = subst (λ x. c .before .before .before .before .before .args .code % getD powers (c .before .before .before .before .before .args .digits - 1) 0 < x) (power-at (c .before .before .before .before .before .args .digits - 2) (omega arith)) (c .if5 .taken) in
+    sym (second-zero _ _ (omega arith) (omega arith) (short (c .before)) unit least (omega arith))
 
 returns-6 : tie.Need-returns-6
 returns-6 c = sym (meant c)
@@ -85,17 +98,21 @@ speed-of-spec =
     (tie.spec
     returns
     returns-2
-    ten-requires
-    sub-ten
-    ten-requires-2
-    sub-ten-2
-    ten-requires-3
+    mul-limit
+    array-read-limit
+    sub-unit
+    mul-unit
+    array-read-unit
+    sub-least
+    mul-least
+    array-read-least
     rem-others
     div-first
-    add-ten
-    sub-ten-3
-    ten-requires-4
+    add-units
+    sub-units
     mul-units
+    array-read-units
+    mul-units-2
     returns-3
     returns-4
     returns-5

@@ -1,8 +1,7 @@
 -- `speeds::ten`: the table holds the powers of ten, one after the other.
-use Prim.Native.Nat.{ℕ, _^_}
 use native.Mathlib.Omega.{arith}
 use borrow.Author.Needs.{needs}
-use Rattle.rows.proofs.Tabulated.{tab-at}
+use Rattle.speeds.proofs.Tens.{power-at}
 use Rattle.speeds.proofs.ten.Statement.{statement}
 use Rattle.speeds.proofs.ten.Tie as tie
 
@@ -13,7 +12,7 @@ array-read-result : tie.Need-array-read-result
 array-read-result c = search needs
 
 returns : tie.Need-returns
-returns c = tab-at (λ (n : ℕ). 10 ^ n) 14 (c .args .n) 0 (omega arith)
+returns c = power-at (c .args .n) (omega arith)
 
 pub ten-spec : {M : Type 1} → statement M
 ten-spec = tie.close (tie.spec mul-result array-read-result returns)
