@@ -136,7 +136,7 @@ fn read_start(tape: &[u8], digits: usize, front: Next) -> StartRead
 }
 
 // The start of the next block, read and not kept.
-pub fn open_block(tape: &[u8], digits: usize, front: Next) -> Passed
+pub(crate) fn open_block(tape: &[u8], digits: usize, front: Next) -> Passed
     requires { ⌜ digits ≤ 18 ⌝ }
     ensures { λ r. ⌜ passedTold (now (tape .entry)) r ≡ openedAt (length (now (tape .entry))) digits (rowsAt (now (tape .entry)) front) ⌝ }
 {
