@@ -52,11 +52,11 @@ advances f n i rs b h e =
 abbrev pub before : List Entry → Answer (List Entry) → Answer (List Entry)
 before es a = a >>= λ x. taken (es ++ x)
 
-before-none : (a : Answer (List Entry)) → a ≡ before [] a
+pub before-none : (a : Answer (List Entry)) → a ≡ before [] a
 before-none (taken x) = refl
 before-none (refused n p) = refl
 
-before-more : (es : List Entry) (x : Entry) (a : Answer (List Entry)) → before es (a >>= λ y. taken (x ∷ y)) ≡ before (es ++ (x ∷ [])) a
+pub before-more : (es : List Entry) (x : Entry) (a : Answer (List Entry)) → before es (a >>= λ y. taken (x ∷ y)) ≡ before (es ++ (x ∷ [])) a
 before-more es x (taken y) = rw append-assoc
 before-more es x (refused n p) = refl
 

@@ -23,7 +23,7 @@ use Rattle.reading.proofs.ItemSteps.{itemNow, resumed, words-turn, word
 abbrev pub prepend : List Word → Answer (Behind (List Word)) → Answer (Behind (List Word))
 prepend ws a = a >>= λ x. taking (ws ++ x .value) (x .rest)
 
-prepend-none : (a : Answer (Behind (List Word))) → a ≡ prepend [] a
+pub prepend-none : (a : Answer (Behind (List Word))) → a ≡ prepend [] a
 prepend-none (taken x) = refl
 prepend-none (refused n p) = refl
 

@@ -22,11 +22,11 @@ use Rattle.reading.proofs.Places.{places}
 
 -- ---- the shorthand first
 
-taken-value : {A : Type 0} (d : A) (a : Answer A) → void a ≡ taken tt → a ≡ taken (valueOr d a)
+pub taken-value : {A : Type 0} (d : A) (a : Answer A) → void a ≡ taken tt → a ≡ taken (valueOr d a)
 taken-value d (taken x) e = refl
 taken-value d (refused n p) e = let z : _≡_ {A = ℕ} 0 1 = cc in absurd (omega arith)
 
-refused-void : {A : Type 0} (a : Answer A) (n p : ℕ) → void a ≡ refused n p → a ≡ refused n p
+pub refused-void : {A : Type 0} (a : Answer A) (n p : ℕ) → void a ≡ refused n p → a ≡ refused n p
 refused-void (taken x) n p e = let z : _≡_ {A = ℕ} 0 1 = cc in absurd (omega arith)
 refused-void (refused m q) n p e = let a : m ≡ n = cc in let b : q ≡ p = cc in rw (a, b)
 

@@ -128,7 +128,7 @@ fn pass_slash(tape: &[u8], front: Next) -> Next
 }
 
 // "/" or not, N or ":", and the number.
-fn read_start(tape: &[u8], digits: usize, front: Next) -> StartRead
+pub fn read_start(tape: &[u8], digits: usize, front: Next) -> StartRead
     requires { ⌜ digits ≤ 18 ⌝ }
     ensures { λ r. ⌜ startTold (now (tape .entry)) r ≡ startAt (length (now (tape .entry))) digits (rowsAt (now (tape .entry)) front) ⌝ }
 {
@@ -158,7 +158,7 @@ pub(crate) fn open_block(tape: &[u8], digits: usize, front: Next) -> Passed
 }
 
 // A block whose record nobody asked for: the place of its LF.
-pub fn pass_block(tape: &[u8], format: Format, front: Next) -> EndRead
+pub(crate) fn pass_block(tape: &[u8], format: Format, front: Next) -> EndRead
     requires { ⌜ Facts format ⌝ }
     ensures { λ r. ⌜ endTold (now (tape .entry)) r ≡ lfOf (blockAt (length (now (tape .entry))) format (rowsAt (now (tape .entry)) front)) ⌝ }
 {
@@ -175,7 +175,7 @@ pub fn pass_block(tape: &[u8], format: Format, front: Next) -> EndRead
 }
 
 // What a refusal hands back.
-pub fn empty_block() -> Block
+pub(crate) fn empty_block() -> Block
     ensures { λ r. ⌜ r ≡ emptyBlock ⌝ }
 {
     let blank = Word {
@@ -201,7 +201,7 @@ fn refused_block(refusal: Refusal) -> BlockGathered
 }
 
 // A block gathered into its record, and the place of its LF.
-pub fn gather_block(tape: &[u8], format: Format, front: Next) -> BlockGathered
+pub(crate) fn gather_block(tape: &[u8], format: Format, front: Next) -> BlockGathered
     requires { ⌜ Facts format ⌝ }
     ensures end { λ r. ⌜ endTold (now (tape .entry)) (r .end) ≡ lfOf (blockAt (length (now (tape .entry))) format (rowsAt (now (tape .entry)) front)) ⌝ }
     ensures block { λ r. ⌜ r .block ≡ valueOr emptyBlock (blockOnly (blockAt (length (now (tape .entry))) format (rowsAt (now (tape .entry)) front))) ⌝ }

@@ -86,7 +86,7 @@ pub fn find_end(tape: &[u8], front: Next, short: u32, other: u32) -> EndFound
 }
 
 // The same with the row behind it.
-pub fn read_end(tape: &[u8], front: Next, short: u32, other: u32) -> EndRead
+pub(crate) fn read_end(tape: &[u8], front: Next, short: u32, other: u32) -> EndRead
     ensures { λ r. ⌜ endTold (now (tape .entry)) r ≡ ended (length (now (tape .entry))) short other (rowsAt (now (tape .entry)) front) ⌝ }
 {
     match find_end(tape, front, short, other) {
@@ -208,7 +208,13 @@ fn restore(missing: Missing, n: usize, number: u64, count: usize) -> u64
 }
 
 // The digits of a number of n.
-pub fn read_figures(tape: &[u8], front: Next, other: u32, missing: Missing, n: usize) -> FiguresRead
+pub(crate) fn read_figures(
+    tape: &[u8],
+    front: Next,
+    other: u32,
+    missing: Missing,
+    n: usize,
+) -> FiguresRead
     requires { ⌜ n ≤ 18 ⌝ }
     ensures { λ r. ⌜ figuresTold (now (tape .entry)) r ≡ figures (length (now (tape .entry))) other missing n (rowsAt (now (tape .entry)) front) ⌝ }
 {

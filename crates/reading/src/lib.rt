@@ -1,4 +1,5 @@
-// Reading: the blocks of a tape under an edition and a shorthand: their number, block n, its rows; and, in `blocks`, a walk from block to block.
+// Reading: the blocks of a tape under an edition and a shorthand: their number, block n, its rows; and the steps of a walk over them: the head, the start of a
+// block, an item, its word, an end.
 ghost use mathlib.Core.Path.{_≡_};
 ghost use mathlib.Core.List.{[]};
 ghost use Rattle.rows.specs.Answer.{numberOf, placeOf, told, void, valueOr};
@@ -7,10 +8,10 @@ ghost use Rattle.reading.specs.Answers.{nowhere, entryNumbered, counted,
 ghost use Rattle.reading.specs.Front.{countTold, partOf, hasBlock};
 
 pub mod blocks;
-mod datum;
-mod figures;
+pub mod datum;
+pub mod figures;
 mod walk;
-mod words;
+pub mod words;
 
 use blocks::empty_block;
 use rows::Checked;

@@ -56,7 +56,7 @@ fn at_letter(letter: u8, front: Next) -> Reach
 }
 
 // How the item of a letter stands: with tabs behind an HT.
-fn reach_item(tape: &[u8], dots: bool, letter: u8, front: Next) -> Reach
+pub fn reach_item(tape: &[u8], dots: bool, letter: u8, front: Next) -> Reach
     ensures { λ r. ⌜ reachTold (now (tape .entry)) letter r ≡ standing dots letter (rowsAt (now (tape .entry)) front) ⌝ }
 {
     if dots {
@@ -77,7 +77,7 @@ fn reach_item(tape: &[u8], dots: bool, letter: u8, front: Next) -> Reach
 }
 
 // One item: its word read and not kept, where it stands.
-pub fn pass_item(tape: &[u8], dots: bool, item: Item, front: Next) -> Passed
+pub(crate) fn pass_item(tape: &[u8], dots: bool, item: Item, front: Next) -> Passed
     requires { ⌜ Widths (item .kind) ⌝ }
     ensures { λ r. ⌜ passedTold (now (tape .entry)) r ≡ itemAt (length (now (tape .entry))) dots item (rowsAt (now (tape .entry)) front) ⌝ }
 {
@@ -92,7 +92,7 @@ pub fn pass_item(tape: &[u8], dots: bool, item: Item, front: Next) -> Passed
 }
 
 // The words of a block, each read and none kept.
-pub fn pass_words(tape: &[u8], format: Format, start: Next) -> WordsRead
+pub(crate) fn pass_words(tape: &[u8], format: Format, start: Next) -> WordsRead
     requires { ⌜ Facts format ⌝ }
     ensures { λ r. ⌜ restTold (now (tape .entry)) r ≡ restOf (wordsAt (length (now (tape .entry))) (format .dots) (itemsOf format) (rowsAt (now (tape .entry)) start)) ⌝ }
 {
@@ -148,7 +148,7 @@ fn with_word(block: Block, word: Word) -> Block
 }
 
 // The words of a block, gathered into its record.
-pub fn gather_words(
+pub(crate) fn gather_words(
     tape: &[u8],
     format: Format,
     start: Next,
