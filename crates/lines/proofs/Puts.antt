@@ -1,13 +1,12 @@
 -- Laws of puts: one behind another is the put of both; and a turn of a loop takes the first of what is to come.
 use Prim.Native.Nat.{ℕ, zero, suc, _+_, _-_, _≤_, _<_}
 use mathlib.Core.Path.{_≡_, refl, sym, ap, subst, _∙_}
-use mathlib.Core.List.{List, [], _∷_, _++_}
+use mathlib.Core.List.{List, [], _∷_, _++_, append-nil}
 use mathlib.Core.Bool.{Bool, true, false, cond}
 use native.Mathlib.Nat.{add-suc, suc-add, add-zero, le-refl}
 use native.Mathlib.Omega.{arith}
-use lib.ListN.{length, set, length-append, length-replicate}
-use lib.Seq.{sets, length-sets}
-use Rattle.reading.specs.Relation.{zeros}
+use lib.ListN.{length, set, drop, replicate, length-append, length-replicate, drop-of-length-le}
+use lib.Seq.{sets, length-sets, sets-eq}
 use Rattle.lines.specs.Line.{Put}
 
 pub sets-append : (xs ys l : List ℕ) (i : ℕ) → sets l i (xs ++ ys) ≡ sets (sets l i xs) (i + length xs) ys
@@ -23,6 +22,9 @@ put-more {l₀} {l} {l₂} {at} {n} {m} {xs} {ys} h g =
 
 pub put-length : {l₀ l : List ℕ} {at n : ℕ} {xs : List ℕ} → Put l₀ at xs l n → length l ≡ length l₀
 put-length {l₀} {at = at} {xs = xs} h = ap length (h .bytes) ∙ length-sets l₀ at xs
+
+pub put-as : {l₀ l : List ℕ} {at n : ℕ} {xs ys : List ℕ} → xs ≡ ys → Put l₀ at xs l n → Put l₀ at ys l n
+put-as {l₀} {l} {at} {n} e h = subst (λ k. Put l₀ at k l n) e h
 
 -- ---- a loop: what was to be put at first is what is to be put now
 
@@ -48,18 +50,22 @@ coming-room h r = omega (arith, h .end, h .same, r)
 pub coming-as : {l₀ l : List ℕ} {start at : ℕ} {all xs ys : List ℕ} → xs ≡ ys → Coming l₀ start all l at xs → Coming l₀ start all l at ys
 coming-as {l₀} {l} {start} {at} {all} e h = subst (λ k. Coming l₀ start all l at k) e h
 
--- ---- zeros
+-- ---- the same byte again and again
 
-pub zeros-next : (n : ℕ) → 0 < n → zeros n ≡ (48 ∷ []) ++ zeros (n - 1)
-zeros-next zero h = absurd (omega arith)
-zeros-next (suc n) h = let e : suc n - 1 ≡ n = omega arith in rw e
+pub many-next : (n b : ℕ) → 0 < n → replicate n b ≡ (b ∷ []) ++ replicate (n - 1) b
+many-next zero b h = absurd (omega arith)
+many-next (suc n) b h = let e : suc n - 1 ≡ n = omega arith in rw e
 
-pub zeros-over : (n : ℕ) → n ≤ 0 → zeros n ≡ []
-zeros-over zero h = refl
-zeros-over (suc n) h = absurd (omega arith)
+pub many-over : (n b : ℕ) → n ≤ 0 → replicate n b ≡ []
+many-over zero b h = refl
+many-over (suc n) b h = absurd (omega arith)
 
-pub zeros-length : (n : ℕ) → length (zeros n) ≡ n
-zeros-length n = let d : ℕ = 48 in length-replicate n d
+-- over the whole line
+pub many-all : (b : ℕ) {l₀ l : List ℕ} {n : ℕ} → Put l₀ 0 (replicate (length l₀) b) l n → l ≡ replicate (length l₀) b
+many-all b {l₀} {l} {n} h =
+    let e : 0 + length (replicate (length l₀) b) ≡ length l₀ = omega (arith, length-replicate (length l₀) b) in
+    h .bytes ∙ sets-eq (replicate (length l₀) b) l₀ 0 (omega (arith, e))
+    ∙ ap (λ k. replicate (length l₀) b ++ drop k l₀) e ∙ rw (drop-of-length-le l₀ {i = length l₀} (le-refl _), append-nil)
 
 pub sign-most : (minus : Bool) → length {A = ℕ} (cond minus (45 ∷ []) []) ≤ 1
 sign-most true = le-refl 1

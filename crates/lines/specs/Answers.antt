@@ -10,9 +10,9 @@ use Rattle.lines.specs.declared.Printed.{Printed}
 use Rattle.lines.specs.declared.Printed.the-variants.{Bytes}
 use Rattle.lines.specs.Text.{countLine, refusalLine}
 
--- the room that the longest line may need
+-- the room that the longest last line may need: "refused", a space, 20 digits, a space, 20 digits and LF
 abbrev pub room : ℕ
-room = 768
+room = 50
 
 -- a line, in a buffer with room for the longest, or 19 at the room needed
 abbrev pub lineIn : List ℕ → List ℕ → Answer (List ℕ)

@@ -1,26 +1,42 @@
-// Lines: what a listing shows of a block, of the count and of a refusal, made in a lent buffer; and the header of the listing's input.
+// Lines: what a listing shows of a tape's blocks, of their count and of a refusal, made in a lent buffer; and the header of the listing's input.
 ghost use mathlib.Core.Path.{_≡_};
 ghost use Prim.Native.Nat.{_≤_};
 ghost use lib.ListN.{length};
 ghost use Rattle.punching.specs.Answers.{written, after};
 ghost use Rattle.lines.specs.declared.Printed.{Printed};
-ghost use Rattle.lines.specs.Text.{blockLine};
 ghost use Rattle.lines.specs.Answers.{lineIn, printedTold, bytesOf, closing};
 
 pub mod input;
+pub mod pages;
 mod text;
 
-use reading::Block;
 use reading::Counted;
+use rows::Next;
 use rows::Refusal;
-use text::put;
 use text::put_closing;
-use text::put_start;
-use text::put_words;
 
 // How many bytes were put.
 pub enum Printed {
     Bytes(usize),
+    Refused(Refusal),
+}
+
+// How many blocks a page lists, how many bytes their lines are, and the row that the next page begins at.
+pub struct Sheet {
+    pub blocks: usize,
+    pub bytes: usize,
+    pub next: usize,
+}
+
+pub enum Page {
+    Lines(Sheet),
+    Refused(Refusal),
+}
+
+// What a step of a page read and put: nothing is there to be read, or the row behind it and the place behind what was put.
+pub enum Step {
+    Nothing,
+    Behind(Next, usize),
     Refused(Refusal),
 }
 
@@ -32,30 +48,16 @@ pub struct Header {
     pub rows: usize,
 }
 
-// The room that the longest line may need: 22 words of a space, a letter, a minus and 20 digits; an N of 255 digits.
-pub const ROOM: usize = 768;
+// The room that the longest last line may need.
+pub const ROOM: usize = 50;
 
 fn no_room() -> Printed
-    ensures { λ r. ⌜ r ≡ Printed.Refused (record { number = 19; place = 768 }) ⌝ }
+    ensures { λ r. ⌜ r ≡ Printed.Refused (record { number = 19; place = 50 }) ⌝ }
 {
     Printed::Refused(Refusal {
         number: 19,
         place: ROOM,
     })
-}
-
-// The line of a block under a shorthand whose N item has so many digits.
-pub fn block_line(digits: u8, block: Block, buffer: &mut [u8]) -> Printed
-    ensures bytes { λ r. ⌜ printedTold r ≡ written (lineIn (now (buffer .entry)) (blockLine digits block)) ⌝ }
-    ensures buffer { λ r. ⌜ now (buffer .exit) ≡ after (now (buffer .entry)) (lineIn (now (buffer .entry)) (blockLine digits block)) ⌝ }
-    ensures within { λ r. ⌜ bytesOf r ≤ length (now (buffer .entry)) ⌝ }
-{
-    if buffer.len() < ROOM {
-        return no_room();
-    }
-    let start = put_start(buffer, digits, block.skip, block.alignment, block.sequence);
-    let end = put_words(buffer, start, block);
-    Printed::Bytes(put(buffer, end, 10))
 }
 
 // The last line: the count of the blocks, or the refusal.

@@ -3,15 +3,12 @@ ghost use mathlib.Core.Path.{_≡_};
 ghost use mathlib.Core.Bool.{cond};
 ghost use mathlib.Core.List.{[], _∷_};
 ghost use Prim.Native.Nat.{_+_, _-_, _≤_, _<_};
-ghost use lib.ListN.{length};
-ghost use Rattle.reading.specs.Record.{wordsOf};
-ghost use Rattle.reading.specs.Relation.{zeros};
+ghost use lib.ListN.{length, replicate};
 ghost use Rattle.reading.specs.declared.Value.the-variants.{Dimension};
-ghost use Rattle.lines.specs.Text.{decimal, full, valueText, wordText, wordsText, startText, countLine, refusalLine};
+ghost use Rattle.lines.specs.Text.{decimal, full, valueText, wordText, startText, countLine, refusalLine};
 ghost use Rattle.lines.specs.Answers.{closing};
 ghost use Rattle.lines.specs.Line.{Put};
 use punching::magnitude_of;
-use reading::Block;
 use reading::Counted;
 use reading::Value;
 use reading::Word;
@@ -38,14 +35,15 @@ fn put_all(line: &mut [u8], start: usize, text: &[u8]) -> usize
     at
 }
 
-fn put_zeros(line: &mut [u8], start: usize, n: usize) -> usize
+// The same byte so many times.
+pub fn put_many(line: &mut [u8], start: usize, n: usize, b: u8) -> usize
     requires { ⌜ start + n ≤ length (now line) ⌝ }
-    ensures { λ r. ⌜ Put (now (line .entry)) start (zeros n) (now (line .exit)) r ⌝ }
+    ensures { λ r. ⌜ Put (now (line .entry)) start (replicate n b) (now (line .exit)) r ⌝ }
 {
     let mut at = start;
     let mut left = n;
     while 0 < left {
-        at = put(line, at, 48);
+        at = put(line, at, b);
         left -= 1;
     }
     at
@@ -71,13 +69,13 @@ fn still(n: usize, count: usize) -> usize
 
 // The same with zeros in front up to n digits.
 fn put_full(line: &mut [u8], at: usize, n: u8, v: u64) -> usize
-    requires { ⌜ at + 255 ≤ length (now line) ⌝ }
+    requires { ⌜ at + n + 20 ≤ length (now line) ⌝ }
     ensures put { λ r. ⌜ Put (now (line .entry)) at (full n v) (now (line .exit)) r ⌝ }
-    ensures end { λ r. ⌜ r ≤ at + 255 ⌝ }
+    ensures end { λ r. ⌜ r ≤ at + n + 20 ⌝ }
 {
     let mut digits = [0u8; 20];
     let count = io::decimal(v, &mut digits);
-    let next = put_zeros(line, at, still(n as usize, count));
+    let next = put_many(line, at, still(n as usize, count), 48);
     put_all(line, next, &digits[..count])
 }
 
@@ -112,7 +110,7 @@ fn put_value(line: &mut [u8], at: usize, value: Value) -> usize
 }
 
 // A space, the letter and the value.
-fn put_word(line: &mut [u8], at: usize, word: Word) -> usize
+pub fn put_word(line: &mut [u8], at: usize, word: Word) -> usize
     requires { ⌜ at + 23 ≤ length (now line) ⌝ }
     ensures put { λ r. ⌜ Put (now (line .entry)) at (wordText word) (now (line .exit)) r ⌝ }
     ensures end { λ r. ⌜ r ≤ at + 23 ⌝ }
@@ -123,25 +121,6 @@ fn put_word(line: &mut [u8], at: usize, word: Word) -> usize
     put_value(line, then, value)
 }
 
-// The words of a block, 22 at most whatever its count says.
-pub fn put_words(line: &mut [u8], start: usize, block: Block) -> usize
-    requires { ⌜ start + 506 ≤ length (now line) ⌝ }
-    ensures put { λ r. ⌜ Put (now (line .entry)) start (wordsText (wordsOf block)) (now (line .exit)) r ⌝ }
-    ensures end { λ r. ⌜ r ≤ start + 506 ⌝ }
-{
-    let mut at = start;
-    let mut i: usize = 0;
-    while i < 22 {
-        if block.count <= i {
-            return at;
-        }
-        let word = block.words[i];
-        at = put_word(line, at, word);
-        i += 1;
-    }
-    at
-}
-
 fn either(first: bool, a: u8, b: u8) -> u8
     ensures { λ r. ⌜ r ≡ cond first a b ⌝ }
 {
@@ -149,12 +128,19 @@ fn either(first: bool, a: u8, b: u8) -> u8
 }
 
 // N or ":", the sequence number, and "/" or "-".
-pub fn put_start(line: &mut [u8], digits: u8, skip: bool, alignment: bool, sequence: u64) -> usize
-    requires { ⌜ 259 ≤ length (now line) ⌝ }
-    ensures put { λ r. ⌜ Put (now (line .entry)) 0 (startText digits skip alignment sequence) (now (line .exit)) r ⌝ }
-    ensures end { λ r. ⌜ r ≤ 259 ⌝ }
+pub fn put_start(
+    line: &mut [u8],
+    start: usize,
+    digits: u8,
+    skip: bool,
+    alignment: bool,
+    sequence: u64,
+) -> usize
+    requires { ⌜ start + digits + 24 ≤ length (now line) ⌝ }
+    ensures put { λ r. ⌜ Put (now (line .entry)) start (startText digits skip alignment sequence) (now (line .exit)) r ⌝ }
+    ensures end { λ r. ⌜ r ≤ start + digits + 24 ⌝ }
 {
-    let at = put(line, 0, either(alignment, 58, 78));
+    let at = put(line, start, either(alignment, 58, 78));
     let number = put(line, at, 32);
     let next = put_full(line, number, digits, sequence);
     let mark = put(line, next, 32);
@@ -163,9 +149,9 @@ pub fn put_start(line: &mut [u8], digits: u8, skip: bool, alignment: bool, seque
 
 // The count of the blocks, or the refusal.
 pub fn put_closing(line: &mut [u8], count: Counted) -> usize
-    requires { ⌜ 768 ≤ length (now line) ⌝ }
+    requires { ⌜ 50 ≤ length (now line) ⌝ }
     ensures put { λ r. ⌜ Put (now (line .entry)) 0 (closing count) (now (line .exit)) r ⌝ }
-    ensures end { λ r. ⌜ r ≤ 768 ⌝ }
+    ensures end { λ r. ⌜ r ≤ 50 ⌝ }
 {
     match count {
         Counted::Blocks(n) => put_count(line, n),
@@ -174,9 +160,9 @@ pub fn put_closing(line: &mut [u8], count: Counted) -> usize
 }
 
 fn put_count(line: &mut [u8], n: usize) -> usize
-    requires { ⌜ 768 ≤ length (now line) ⌝ }
+    requires { ⌜ 50 ≤ length (now line) ⌝ }
     ensures put { λ r. ⌜ Put (now (line .entry)) 0 (countLine n) (now (line .exit)) r ⌝ }
-    ensures end { λ r. ⌜ r ≤ 768 ⌝ }
+    ensures end { λ r. ⌜ r ≤ 50 ⌝ }
 {
     let at = put_all(line, 0, b"blocks ");
     let end = put_decimal(line, at, n as u64);
@@ -184,9 +170,9 @@ fn put_count(line: &mut [u8], n: usize) -> usize
 }
 
 fn put_refusal(line: &mut [u8], refusal: Refusal) -> usize
-    requires { ⌜ 768 ≤ length (now line) ⌝ }
+    requires { ⌜ 50 ≤ length (now line) ⌝ }
     ensures put { λ r. ⌜ Put (now (line .entry)) 0 (refusalLine (refusal .number) (refusal .place)) (now (line .exit)) r ⌝ }
-    ensures end { λ r. ⌜ r ≤ 768 ⌝ }
+    ensures end { λ r. ⌜ r ≤ 50 ⌝ }
 {
     let at = put_all(line, 0, b"refused ");
     let number = put_decimal(line, at, refusal.number as u64);
