@@ -3,5 +3,6 @@ pub mod Puts
 pub mod Decimals
 pub mod Printing
 pub mod Paging
+pub mod PageAfterPage
 pub mod Headers
 pub mod Cases

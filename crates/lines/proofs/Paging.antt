@@ -43,7 +43,7 @@ words-more : (ws vs : List Word) → wordsText (ws ++ vs) ≡ wordsText ws ++ wo
 words-more [] vs = refl
 words-more (w ∷ ws) vs = ap (λ t. wordText w ++ t) (words-more ws vs) ∙ sym (append-assoc (wordText w) (wordsText ws) (wordsText vs))
 
-lines-more : (n : ℕ) (es fs : List Entry) → blockLines n (es ++ fs) ≡ blockLines n es ++ blockLines n fs
+pub lines-more : (n : ℕ) (es fs : List Entry) → blockLines n (es ++ fs) ≡ blockLines n es ++ blockLines n fs
 lines-more n [] fs = refl
 lines-more n (e ∷ es) fs = ap (λ t. blockLine n (e .block) ++ t) (lines-more n es fs) ∙ sym (append-assoc (blockLine n (e .block)) (blockLines n es) (blockLines n fs))
 
