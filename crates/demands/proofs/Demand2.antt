@@ -22,7 +22,7 @@ use Rattle.reading.proofs.Programs.{blocksOf, tape-read, read-tape}
 use Rattle.punching.specs.Rows.{headRows, cleared}
 use Rattle.punching.specs.Answers.{roomFor, headPunched, blockPunched}
 use Rattle.punching.proofs.Refusals.{block-written}
-use Rattle.punching.proofs.PunchedTapes.{block-appended, head-tape}
+use Rattle.punching.proofs.PunchedTapes.{block-appended, regrouped, head-tape}
 
 module _ (e : ℕ) (s t : List ℕ) where
   -- "A tape is accepted exactly when it is a tape of some program under the edition and shorthand,"
@@ -86,7 +86,7 @@ module _ (e : ℕ) (s : List ℕ) where
   behind {bs} {t} (b ∷ cs) _ h (more {r = r} {u = u} buffer q p) l =
       let within : length ((t ++ r) ++ u) ≤ limit = rw (append-assoc t r u) l in
       let next = one-behind b buffer h q (shorter (t ++ r) u within) in
-      rw (append-assoc bs (cleared b ∷ []) (map cleared cs), append-assoc t r u) at (behind cs u next p within)
+      regrouped bs (cleared b) (map cleared cs) t r u (behind cs u next p within)
 
   -- "Blocks punched after the head, within the length limit, read back as the same blocks", unused places cleared.
   pub read-back : (f : Format) → parsed e s ≡ taken f → (buffer head : List ℕ) → headPunched buffer ≡ taken head → (bs : List Block) (u : List ℕ) → PunchedAs bs u

@@ -1,11 +1,11 @@
 -- The round trip: a head and blocks punched behind any accepted tape, within the row limit, read back as they were handed in, with unused places cleared.
 use Prim.Native.Nat.{ℕ, _+_, _≤_}
-use mathlib.Core.Path.{_≡_, ap, _∙_}
+use mathlib.Core.Path.{_≡_, ap, sym, _∙_}
 use mathlib.Core.List.{List, [], _∷_, _++_, append-assoc, append-nil, map}
 use native.Mathlib.Omega.{arith}
 use lib.Dec.{lit≤}
 use lib.ListN.{length, length-append, length-map}
-use Rattle.rows.specs.Answer.{taken}
+use Rattle.rows.specs.Answer.{taken, valueOr}
 use Rattle.rows.specs.Kept.{kept}
 use Rattle.rows.specs.ControlOut.{WellFormed}
 use Rattle.rows.specs.Passes.{Every, Passes}
@@ -76,6 +76,14 @@ punchedBlocks f (b ∷ bs) = rowsOf f b ++ punchedBlocks f bs
 abbrev pub punchedTape : Format → List Block → List ℕ
 punchedTape f bs = headRows ++ punchedBlocks f bs
 
+-- one block and then more, or all of them at once
+pub regrouped : {e : ℕ} {s : List ℕ} (bs : List Block) (b : Block) (cs : List Block) (t r u : List ℕ) → TapeOf e s (bs ++ (b ∷ []) ++ cs) (t ++ r ++ u) → TapeOf e s (bs ++ (b ∷ cs)) (t ++ (r ++ u))
+regrouped bs b cs t r u h = rw (append-assoc bs (b ∷ []) cs, append-assoc t r u) at h
+
+-- what is within the limit with more behind it is within the limit
+front-short : (t r s : List ℕ) → length (t ++ r ++ s) ≤ limit → length (t ++ r) ≤ limit
+front-short t r s h = omega (arith, length-append (t ++ r) s)
+
 -- ---- a block behind a tape
 
 module _ (e : ℕ) (s : List ℕ) (f : Format) (parses : parsed e s ≡ taken f) where
@@ -83,7 +91,7 @@ module _ (e : ℕ) (s : List ℕ) (f : Format) (parses : parsed e s ≡ taken f)
       → TapeOf e s (bs ++ (cleared b ∷ [])) (t ++ rowsOf f b)
   block-appended {bs} {t} b h fits short =
       let p : parsed e s ≡ taken (h .format) = ap (parsed e) (h .spelt) ∙ complete (h .lawful) in
-      let same : h .format ≡ f = cc in
+      let same : h .format ≡ f = ap (valueOr f) (sym p ∙ parses) in
       let lawful : Lawful e f = rw same at (h .lawful) in
       let facts = lawful-facts lawful in
       record {
@@ -103,8 +111,8 @@ module _ (e : ℕ) (s : List ℕ) (f : Format) (parses : parsed e s ≡ taken f)
       let rows = rowsOf f b in
       let rest = punchedBlocks f cs in
       let within : length (t ++ rows ++ rest) ≤ limit = rw (append-assoc t rows rest) short in
-      let next = block-appended b h (fits .0) (omega (arith, length-append (t ++ rows) rest)) in
-      rw (append-assoc bs (cleared b ∷ []) (map cleared cs), append-assoc t rows rest) at (blocks-appended cs next (fits .1) within)
+      let next = block-appended b h (fits .0) (front-short t rows rest within) in
+      regrouped bs (cleared b) (map cleared cs) t rows rest (blocks-appended cs next (fits .1) within)
 
   -- ---- and read back
 
