@@ -1,5 +1,5 @@
 -- `punching::words::put_words`: at item k and word i the rows so far stand in the line, before those to come.
-use Prim.Native.Nat.{_+_, _-_, _*_, _≤_, _<_}
+use Prim.Native.Nat.{ℕ, _+_, _-_, _*_, _≤_, _<_}
 use mathlib.Core.Path.{_≡_, refl, sym, ap, _∙_}
 use native.Mathlib.Omega.{arith}
 use lib.ListN.{length, getD, take, length-map}
@@ -20,6 +20,25 @@ Inv-loop line₀ start format block dots items words at₀ i₀ k₀ line at i k
 
 abbrev μ-loop : tie.MeasureT-loop
 μ-loop line₀ start format block dots items words at₀ i₀ k₀ line at i k = items - k
+
+-- the sums, over numbers alone, so that nothing of what is known at a place is looked through for them
+one-on : {k n : ℕ} → k < n → k + 1 ≤ n
+one-on l = omega arith
+
+tab-on : {a u n : ℕ} (k : ℕ) → a ≤ 11 + 21 * k → n ≡ a + u → u ≤ 1 → n ≤ 11 + 21 * (k + 1)
+tab-on k l e m = omega arith
+
+word-on : {a u n r : ℕ} (k : ℕ) → a ≤ 11 + 21 * k → n ≡ a + u → u ≤ 1 → r ≤ n + 20 → r ≤ 11 + 21 * (k + 1)
+word-on k l e m s = omega arith
+
+tab-room : {a k items n : ℕ} → a ≤ 11 + 21 * k → k < items → items ≤ 22 → 474 ≤ n → a < n
+tab-room l d f s = omega arith
+
+word-room : {a k items u n x y z : ℕ} → a ≤ 11 + 21 * k → k < items → items ≤ 22 → n ≡ a + u → u ≤ 1 → y ≡ z → x ≡ y → 474 ≤ z → n + 20 ≤ x
+word-room l d f e m p q s = omega arith
+
+within : {a k items : ℕ} → a ≤ 11 + 21 * k → k ≤ items → items ≤ 22 → a ≤ 473
+within l d f = omega arith
 
 long : (c : tie.Start Inv-loop μ-loop) → length (c .args .t4 .words) ≡ 22
 long c = simp length-map at (c .good .1 .1 .1 .0 .1 .1 .1 .1 .1 .1 .0 .1 .0 .1)
@@ -68,7 +87,10 @@ add-k : tie.Need-add-k Inv-loop μ-loop
 add-k c = search needs
 
 put-tab-requires : tie.Need-put-tab-requires Inv-loop μ-loop
-put-tab-requires c κs = omega (arith, c .before .before .before .before .before .before .before .pre .0 .few)
+put-tab-requires c κs =
+    let s = c .before .before .before .before .before .before .before in
+    let l = c .before .before .before .before .before .loop in
+    tab-room (l .inv .3) (c .before .before .before .if1 .left) (s .pre .0 .few) (rw (l .inv .0) (s .pre .3))
 
 loop-less : tie.Need-loop-less Inv-loop μ-loop
 loop-less c = search needs
@@ -78,10 +100,10 @@ loop-again c =
     let s = c .before .before .before .before .before .before .before .before .before .before .before .before .before in
     let l = c .before .before .before .before .before .before .before .before .before .before .before .loop in (
       c .before .before .before .before .before .put-tab .kept .0 ∙ l .inv .0,
-      omega arith,
-      omega arith,
-      omega (arith, c .before .before .before .before .before .put-tab .ensures .end, tab-most (s .args .t3 .dots)),
-      l .inv .4 ∙ turn-out (s .args .t3) (s .pre .0) (s .args .t4) (long s) (s .pre .1) (take (l .at) (l .line)) (l .k) (l .i) (c .before .before .before .before .before .before .before .before .before .before .loop-test .taken) (omega (arith, c .before .before .before .before .before .before .before .before .before .if1 .left)) (c .if2 .taken)
+      one-on (c .before .before .before .before .before .before .before .before .before .if1 .left),
+      l .inv .2,
+      tab-on (l .k) (l .inv .3) (c .before .before .before .before .before .put-tab .ensures .end) (tab-most (s .args .t3 .dots)),
+      l .inv .4 ∙ turn-out (s .args .t3) (s .pre .0) (s .args .t4) (long s) (s .pre .1) (take (l .at) (l .line)) (l .k) (l .i) (c .before .before .before .before .before .before .before .before .before .before .loop-test .taken) (c .before .before .before .before .before .before .before .before .before .if1 .left) (c .if2 .taken)
           ∙ ap (λ p. toCome (s .args .t3) (s .args .t4) p (l .k + 1) (l .i)) (sym (c .before .before .before .before .before .put-tab .ensures .rows)),
     )
 
@@ -92,10 +114,10 @@ put-word-requires : tie.Need-put-word-requires Inv-loop μ-loop
 put-word-requires c κs =
     let s = c .before .before .before .before .before .before .before .before .before .before .before .before .before .before in
     let l = c .before .before .before .before .before .before .before .before .before .before .before .before .loop in
-    let due : l .k < s .args .t3 .count = omega (arith, c .before .before .before .before .before .before .before .before .before .before .if1 .left) in (
+    let due : l .k < s .args .t3 .count = c .before .before .before .before .before .before .before .before .before .before .if1 .left in (
       widths-at (s .args .t3) (s .pre .0) (l .k) due,
       letter-at (s .args .t3) (s .pre .0) (l .k) due,
-      omega (arith, l .inv .0, c .before .before .before .before .before .before .put-tab .kept .0, c .before .before .before .before .before .before .put-tab .ensures .end, tab-most (s .args .t3 .dots), s .pre .0 .few),
+      word-room (l .inv .3) due (s .pre .0 .few) (c .before .before .before .before .before .before .put-tab .ensures .end) (tab-most (s .args .t3 .dots)) (l .inv .0) (c .before .before .before .before .before .before .put-tab .kept .0) (s .pre .3),
     )
 
 enum-known-answer : tie.Need-enum-known-answer Inv-loop μ-loop
@@ -112,7 +134,7 @@ returns-2 c =
     let s = c .before .before .before .before .before .before .before .before .before .before .before .before .before .before .before .before .before .before .before in
     let l = c .before .before .before .before .before .before .before .before .before .before .before .before .before .before .before .before .before .loop in
     let told = ap (grownTold (c .before .before .before .before .put-word .last .0)) (c .enum-told .given .1) in (
-      told ∙ sym (l .inv .4 ∙ turn-away (s .args .t3) (s .pre .0) (s .args .t4) (long s) (s .pre .1) (take (l .at) (l .line)) (l .k) (l .i) (c .before .before .before .before .before .before .before .before .before .before .before .before .before .before .before .before .loop-test .taken) (omega (arith, c .before .before .before .before .before .before .before .before .before .before .before .before .before .before .before .if1 .left)) (c .before .before .before .before .before .before .if2 .left) _ _ (sym told ∙ judged (c .before .before .before .before))),
+      told ∙ sym (l .inv .4 ∙ turn-away (s .args .t3) (s .pre .0) (s .args .t4) (long s) (s .pre .1) (take (l .at) (l .line)) (l .k) (l .i) (c .before .before .before .before .before .before .before .before .before .before .before .before .before .before .before .before .loop-test .taken) (c .before .before .before .before .before .before .before .before .before .before .before .before .before .before .before .if1 .left) (c .before .before .before .before .before .before .if2 .left) _ _ (sym told ∙ judged (c .before .before .before .before))),
       rw (c .enum-told .given .1) (omega arith),
     )
 
@@ -125,10 +147,10 @@ loop-again-2 c =
     let l = c .before .before .before .before .before .before .before .before .before .before .before .before .before .before .before .before .before .before .loop in
     let told = ap (grownTold (c .before .before .before .before .before .put-word .last .0)) (c .before .answer .given .1) in (
       c .before .before .before .before .before .put-word .kept .0 ∙ c .before .before .before .before .before .before .before .before .before .before .before .before .put-tab .kept .0 ∙ l .inv .0,
-      omega (arith, c .before .before .before .before .before .before .before .before .before .before .before .before .before .before .before .before .if1 .left),
-      omega (arith, c .before .before .before .before .before .before .before .before .before .before .before .before .before .before .before .before .before .loop-test .taken),
-      omega (arith, l .inv .3, rw (c .before .answer .given .1) at (c .before .before .before .before .before .put-word .ensures .1), c .before .before .before .before .before .before .before .before .before .before .before .before .put-tab .ensures .end, tab-most (s .args .t3 .dots)),
-      l .inv .4 ∙ turn-in (s .args .t3) (s .pre .0) (s .args .t4) (long s) (s .pre .1) (take (l .at) (l .line)) (l .k) (l .i) (c .before .before .before .before .before .before .before .before .before .before .before .before .before .before .before .before .before .loop-test .taken) (omega (arith, c .before .before .before .before .before .before .before .before .before .before .before .before .before .before .before .before .if1 .left)) (c .before .before .before .before .before .before .before .if2 .left) _ (sym told ∙ judged (c .before .before .before .before .before)),
+      one-on (c .before .before .before .before .before .before .before .before .before .before .before .before .before .before .before .before .if1 .left),
+      one-on (c .before .before .before .before .before .before .before .before .before .before .before .before .before .before .before .before .before .loop-test .taken),
+      word-on (l .k) (l .inv .3) (c .before .before .before .before .before .before .before .before .before .before .before .before .put-tab .ensures .end) (tab-most (s .args .t3 .dots)) (rw (c .before .answer .given .1) at (c .before .before .before .before .before .put-word .ensures .1)),
+      l .inv .4 ∙ turn-in (s .args .t3) (s .pre .0) (s .args .t4) (long s) (s .pre .1) (take (l .at) (l .line)) (l .k) (l .i) (c .before .before .before .before .before .before .before .before .before .before .before .before .before .before .before .before .before .loop-test .taken) (c .before .before .before .before .before .before .before .before .before .before .before .before .before .before .before .before .if1 .left) (c .before .before .before .before .before .before .before .if2 .left) _ (sym told ∙ judged (c .before .before .before .before .before)),
     )
 
 same-length-3 : tie.Need-same-length-3 Inv-loop μ-loop
@@ -138,7 +160,7 @@ returns-3 : tie.Need-returns-3 Inv-loop μ-loop
 returns-3 c =
     let s = c .before .before .before in
     let l = c .before .loop in
-    (sym (l .inv .4 ∙ over (s .args .t3) (s .pre .0) (s .args .t4) (long s) (s .pre .1) (take (l .at) (l .line)) (l .k) (l .i) (c .loop-test .left)), omega (arith, s .pre .0 .few))
+    (sym (l .inv .4 ∙ over (s .args .t3) (s .pre .0) (s .args .t4) (long s) (s .pre .1) (take (l .at) (l .line)) (l .k) (l .i) (c .loop-test .left)), within (l .inv .3) (l .inv .1) (s .pre .0 .few))
 
 pub put-words-spec : {M : Type 1} → statement M
 put-words-spec =
