@@ -6,7 +6,7 @@ use Prim.Native.Nat.{ℕ, _+_, _≤_, _<_}
 use native.Mathlib.Nat.{le-refl}
 use native.Mathlib.Omega.{arith}
 use lib.ListN.{length, getD}
-use Rattle.rows.specs.Answer.{Answer, taken, refused, valueOr, _>>=_}
+use Rattle.rows.specs.Answer.{Answer, taken, refused, numberOf, placeOf, valueOr, _>>=_}
 use Rattle.rows.specs.Kept.{KeptRow}
 use Rattle.shorthand.specs.declared.Format.{Format}
 use Rattle.shorthand.specs.Layout.{blank}
@@ -18,6 +18,20 @@ use Rattle.reading.specs.Front.{lfOf, sizeOf, restOf, Begun, startAt, no
 use Rattle.reading.proofs.BlockWalk.{Onward, onward, Held, holds-refused}
 use Rattle.reading.proofs.ItemSteps.{restFrom, item-passed, none-left}
 use Rattle.reading.proofs.Started.{start-refused, then-closes}
+
+-- ---- what two answers that are the same say, of themselves alone
+
+refused-not : {A : Type 0} {m p : ℕ} {a : A} → refused m p ≡ taken a → ⊥
+refused-not e = let z : _≡_ {A = ℕ} 0 1 = cc in absurd (omega arith)
+
+same-refusal : {A : Type 0} {x y m p : ℕ} → _≡_ {A = Answer A} (refused x y) (refused m p) → (x ≡ m) × (y ≡ p)
+same-refusal e = (ap numberOf e, ap placeOf e)
+
+same-past : (u v : List KeptRow) → taken (past u) ≡ taken (past v) → u ≡ v
+same-past u v e = cc
+
+past-not : {v : List KeptRow} → taken nothing ≡ taken (past v) → ⊥
+past-not e = let z : _≡_ {A = ℕ} 0 1 = cc in absurd (omega arith)
 
 -- ---- the end of the tape
 
@@ -66,26 +80,25 @@ module _ {X : Type 0} (ask : Entry → X) (w n : ℕ) (f : Format) (first : ℕ)
 
   module _ {from count : ℕ} {held : X} where
     pub opens : (rs : List KeptRow) → Held ask w n f first start from rs count held → (v : List KeptRow) → openedAt n (f .sequence) rs ≡ taken (past v) → InBlock from 0 v count held
-    opens [] g v e = let z : _≡_ {A = ℕ} 0 1 = cc in absurd (omega arith)
+    opens [] g v e = absurd (past-not e)
     opens (r ∷ u) g v e = by (startAt n (f .sequence) (r ∷ u)) refl e
       where
         by : (a : Answer (Behind Begun)) → startAt n (f .sequence) (r ∷ u) ≡ a → (restOf a >>= λ x. taken (past x)) ≡ taken (past v) → InBlock from 0 v count held
         by (taken s) q h =
-            let same : s .rest ≡ v = cc in
+            let same : s .rest ≡ v = same-past (s .rest) v h in
             record { row = r; others = u; before = g; left = then-closes n f (r ∷ u) s q ∙ rw same }
-        by (refused m p) q h = let z : _≡_ {A = ℕ} 0 1 = cc in absurd (omega arith)
+        by (refused m p) q h = absurd (refused-not h)
 
     pub opens-refused : (rs : List KeptRow) → Held ask w n f first start from rs count held → (m p : ℕ) → openedAt n (f .sequence) rs ≡ refused m p
         → (none : X) → none ≡ ask nowhere → Ends m p none
-    opens-refused [] g m p e none q = let z : _≡_ {A = ℕ} 0 1 = cc in absurd (omega arith)
+    opens-refused [] g m p e none q = absurd (refused-not (sym e))
     opens-refused (r ∷ u) g m p e none q = by (startAt n (f .sequence) (r ∷ u)) refl e
       where
         by : (a : Answer (Behind Begun)) → startAt n (f .sequence) (r ∷ u) ≡ a → (restOf a >>= λ x. taken (past x)) ≡ refused m p → Ends m p none
-        by (taken s) i h = let z : _≡_ {A = ℕ} 0 1 = cc in absurd (omega arith)
+        by (taken s) i h = absurd (refused-not (sym h))
         by (refused x y) i h =
-            let a : x ≡ m = cc in
-            let b : y ≡ p = cc in
-            holds-refused ask w n f first start g r u refl m p (ap lfOf (start-refused n f (r ∷ u) m p (i ∙ rw (a, b)))) none q
+            let a = same-refusal h in
+            holds-refused ask w n f first start g r u refl m p (ap lfOf (start-refused n f (r ∷ u) m p (i ∙ rw (a .0, a .1)))) none q
 
   -- ---- an item, and the end of the block
 
