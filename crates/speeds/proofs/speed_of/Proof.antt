@@ -1,5 +1,5 @@
 -- `speeds::speed_of`: each test is one of the definition's, in its order, and the digits are those of the code.
-use Prim.Native.Nat.{_+_, _-_, _*_, _/_, _%_, _^_, _≤_, _<_}
+use Prim.Native.Nat.{ℕ, _+_, _-_, _*_, _/_, _%_, _^_, _≤_, _<_}
 use mathlib.Core.Path.{_≡_, sym, subst}
 use native.Mathlib.Omega.{arith}
 use borrow.Author.Needs.{needs}
@@ -12,6 +12,22 @@ use Rattle.speeds.proofs.Bounds.{speed-under}
 use Rattle.speeds.proofs.Steps.{first-digit, second-zero, speed-is}
 use Rattle.speeds.proofs.speed_of.Statement.{statement}
 use Rattle.speeds.proofs.speed_of.Tie as tie
+
+-- the powers asked for stand in the table: of the numbers alone, so that nothing of what is known at a place is looked through for them
+in-table : {k : ℕ} (j : ℕ) → k < 6 → k - j < 14
+in-table j l = omega arith
+
+under-14 : {k : ℕ} → k < 6 → k < 14
+under-14 l = omega arith
+
+at-most-5 : {k : ℕ} → k < 6 → k ≤ 5
+at-most-5 l = omega arith
+
+units-at : {k d : ℕ} → 3 ≤ k → d < 10 → d + 5 - k < 14
+units-at three l = omega arith
+
+not-zero : {n : ℕ} → (n ≡ 0 → ⊥) → 0 < n
+not-zero l = omega arith
 
 returns : tie.Need-returns
 returns c = sym (speed-length-short _ _ (c .if1 .taken))
@@ -44,20 +60,20 @@ array-read-least : tie.Need-array-read-least
 array-read-least c = search needs
 
 rem-others : tie.Need-rem-others
-rem-others c = subst (λ x. 0 < x) (sym (power-at (c .before .before .args .digits - 1) (omega arith))) (ten-positive _)
+rem-others c = subst (λ x. 0 < x) (sym (power-at (c .before .before .args .digits - 1) (in-table 1 (c .if2 .taken)))) (ten-positive _)
 
 short : (c : tie.Else4) → c .before .before .before .before .args .code < 10 ^ c .before .before .before .before .args .digits
-short c = subst (λ x. c .before .before .before .before .args .code < x) (power-at (c .before .before .before .before .args .digits) (omega arith)) (c .if4 .left)
+short c = subst (λ x. c .before .before .before .before .args .code < x) (power-at (c .before .before .before .before .args .digits) (under-14 (c .before .before .if2 .taken))) (c .if4 .left)
 
 first : (c : tie.Else5) → c .before .before .before .before .before .args .code / getD powers (c .before .before .before .before .before .args .digits - 1) 0 < 10
-first c = first-digit (c .before .before .before .before .before .args .digits) (c .before .before .before .before .before .args .code) (omega arith) (omega arith) (short (c .before)) (power-at (c .before .before .before .before .before .args .digits - 1) (omega arith))
+first c = first-digit (c .before .before .before .before .before .args .digits) (c .before .before .before .before .before .args .code) (c .before .before .before .before .if1 .left) (at-most-5 (c .before .before .before .if2 .taken)) (short (c .before)) (power-at (c .before .before .before .before .before .args .digits - 1) (in-table 1 (c .before .before .before .if2 .taken)))
 
 meant : (c : tie.Else5) →
     let unit = getD powers (c .before .before .before .before .before .args .digits - 1) 0 in
     speedFor (c .before .before .before .before .before .args .digits) (c .before .before .before .before .before .args .code) ≡ taken (c .before .before .before .before .before .args .code % unit * getD powers (c .before .before .before .before .before .args .code / unit + 5 - c .before .before .before .before .before .args .digits) 0)
 meant c =
-    let least = subst (λ x. x ≤ c .before .before .before .before .before .args .code % getD powers (c .before .before .before .before .before .args .digits - 1) 0) (power-at (c .before .before .before .before .before .args .digits - 2) (omega arith)) (c .if5 .left) in
-    speed-is (c .before .before .before .before .before .args .digits) (c .before .before .before .before .before .args .code) (omega arith) (omega arith) (short (c .before)) (power-at (c .before .before .before .before .before .args .digits - 1) (omega arith)) least (power-at _ (omega (arith, first c)))
+    let least = subst (λ x. x ≤ c .before .before .before .before .before .args .code % getD powers (c .before .before .before .before .before .args .digits - 1) 0) (power-at (c .before .before .before .before .before .args .digits - 2) (in-table 2 (c .before .before .before .if2 .taken))) (c .if5 .left) in
+    speed-is (c .before .before .before .before .before .args .digits) (c .before .before .before .before .before .args .code) (c .before .before .before .before .if1 .left) (at-most-5 (c .before .before .before .if2 .taken)) (short (c .before)) (power-at (c .before .before .before .before .before .args .digits - 1) (in-table 1 (c .before .before .before .if2 .taken))) least (power-at _ (units-at (c .before .before .before .before .if1 .left) (first c)))
 
 div-first : tie.Need-div-first
 div-first c = rem-others (c .before .before .before)
@@ -78,16 +94,16 @@ mul-units-2 : tie.Need-mul-units-2
 mul-units-2 c = omega (arith, speed-under _ _ _ (meant c))
 
 returns-3 : tie.Need-returns-3
-returns-3 c = rw (c .if3 .taken) (sym (speed-zeros _ (omega arith) (omega arith)))
+returns-3 c = rw (c .if3 .taken) (sym (speed-zeros _ (c .before .before .if1 .left) (at-most-5 (c .before .if2 .taken))))
 
 returns-4 : tie.Need-returns-4
-returns-4 c = sym (speed-more-digits _ _ (subst (λ x. x ≤ c .before .before .before .before .args .code) (power-at (c .before .before .before .before .args .digits) (omega arith)) (c .if4 .taken)))
+returns-4 c = sym (speed-more-digits _ _ (subst (λ x. x ≤ c .before .before .before .before .args .code) (power-at (c .before .before .before .before .args .digits) (under-14 (c .before .before .if2 .taken))) (c .if4 .taken)))
 
 returns-5 : tie.Need-returns-5
 returns-5 c =
-    let unit = power-at (c .before .before .before .before .before .args .digits - 1) (omega arith) in
-    let least = subst (λ x. c .before .before .before .before .before .args .code % getD powers (c .before .before .before .before .before .args .digits - 1) 0 < x) (power-at (c .before .before .before .before .before .args .digits - 2) (omega arith)) (c .if5 .taken) in
-    sym (second-zero _ _ (omega arith) (omega arith) (short (c .before)) unit least (omega arith))
+    let unit = power-at (c .before .before .before .before .before .args .digits - 1) (in-table 1 (c .before .before .before .if2 .taken)) in
+    let least = subst (λ x. c .before .before .before .before .before .args .code % getD powers (c .before .before .before .before .before .args .digits - 1) 0 < x) (power-at (c .before .before .before .before .before .args .digits - 2) (in-table 2 (c .before .before .before .if2 .taken))) (c .if5 .taken) in
+    sym (second-zero _ _ (c .before .before .before .before .if1 .left) (at-most-5 (c .before .before .before .if2 .taken)) (short (c .before)) unit least (not-zero (c .before .before .if3 .left)))
 
 returns-6 : tie.Need-returns-6
 returns-6 c = sym (meant c)
