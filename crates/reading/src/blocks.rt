@@ -175,7 +175,7 @@ pub(crate) fn pass_block(tape: &[u8], format: Format, front: Next) -> EndRead
 }
 
 // What a refusal hands back.
-pub(crate) fn empty_block() -> Block
+pub fn empty_block() -> Block
     ensures { λ r. ⌜ r ≡ emptyBlock ⌝ }
 {
     let blank = Word {
