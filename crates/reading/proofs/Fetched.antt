@@ -5,7 +5,7 @@ use Prim.Native.Nat.{ℕ, _+_, _≤_, _<_}
 use native.Mathlib.Omega.{arith}
 use lib.ListN.{length, getD}
 use borrow.Author.Tests.{ne-eqb}
-use mathlib.Core.List.{List}
+use mathlib.Core.List.{List, _∷_}
 use Rattle.rows.specs.Row.{character}
 use Rattle.rows.specs.Kept.{turn, keptAt, firstOf}
 use Rattle.rows.specs.declared.Turn.the-variants.{Keep}
@@ -24,12 +24,16 @@ pub fetched : (t : List ℕ) (at : ℕ) (x : Next) → x ≡ firstOf (keptAt t a
 fetched t at x e = by-case t at x (sym e)
 
 -- a digit is kept
-pub digit-kept : (t : List ℕ) (at : ℕ) → at < length t → 48 ≤ character (getD t at 0) → character (getD t at 0) < 58
+digit-kept : (t : List ℕ) (at : ℕ) → at < length t → 48 ≤ character (getD t at 0) → character (getD t at 0) < 58
     → Row (character (getD t at 0)) at (at + 1) ≡ firstOf (keptAt t at)
 digit-kept t at h l m = sym (ap firstOf (kept-keep t at false h (keeps (character (getD t at 0)) l m)))
   where
     keeps : (c : ℕ) → 48 ≤ c → c < 58 → turn false c ≡ Keep
     keeps c x y = rw (ne-eqb c 0 (λ e. omega (arith, x, e)), ne-eqb c 127 (λ e. omega (arith, y, e)), ne-eqb c 40 (λ e. omega (arith, x, e)))
+
+pub digit-rows : (t : List ℕ) (at : ℕ) → at < length t → 48 ≤ character (getD t at 0) → character (getD t at 0) < 58
+    → keptAt t at ≡ record { place = at; char = character (getD t at 0) } ∷ keptAt t (at + 1)
+digit-rows t at h l m = sym (fetched t at (Row (character (getD t at 0)) at (at + 1)) (digit-kept t at h l m))
 
 pub fetched-digit : (t : List ℕ) (x : Next) → digitNext (rowsAt t x) ≡ digitFront x
 fetched-digit t Next.End = refl

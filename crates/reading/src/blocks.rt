@@ -12,21 +12,21 @@ ghost use Rattle.reading.specs.Front.{rowsAt, endTold, startTold, digits
 use crate::Block;
 use crate::BlockGathered;
 use crate::EndRead;
-use crate::FiguresRead;
 use crate::Passed;
 use crate::Start;
 use crate::StartRead;
 use crate::Value;
 use crate::Word;
 use crate::WordsRead;
+use crate::figures::is_digit_next;
+use crate::figures::read_digits;
 use crate::figures::read_end;
-use crate::figures::read_figures;
+use crate::figures::refuse_front;
 use crate::words::gather_words;
 use crate::words::pass_words;
 use rows::Next;
 use rows::Refusal;
 use shorthand::Format;
-use shorthand::Missing;
 
 // "%" and an end.
 pub fn read_head(tape: &[u8], front: Next) -> EndRead
@@ -55,15 +55,20 @@ fn read_number(tape: &[u8], digits: usize, skip: bool, alignment: bool, front: N
     requires { ⌜ digits ≤ 18 ⌝ }
     ensures { λ r. ⌜ startTold (now (tape .entry)) r ≡ digitsAt (length (now (tape .entry))) digits skip alignment (rowsAt (now (tape .entry)) front) ⌝ }
 {
-    match read_figures(tape, front, 9, Missing::Nothing, digits) {
-        FiguresRead::Number(sequence, rest) => StartRead::Is(Start {
-            skip,
-            alignment,
-            sequence,
-            front: rest,
-        }),
-        FiguresRead::Refused(r) => StartRead::Refused(r),
+    let q = read_digits(tape, front, digits);
+    let rest = q.front;
+    if q.count < digits {
+        return StartRead::Refused(refuse_front(tape, rest, 14, 9));
     }
+    if is_digit_next(rest) {
+        return StartRead::Refused(refuse_front(tape, rest, 14, 9));
+    }
+    StartRead::Is(Start {
+        skip,
+        alignment,
+        sequence: q.number,
+        front: rest,
+    })
 }
 
 // N or ":" and its number.

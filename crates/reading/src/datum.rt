@@ -2,7 +2,7 @@
 ghost use mathlib.Core.Path.{_≡_};
 ghost use Prim.Native.Nat.{_^_, _<_};
 ghost use lib.ListN.{length};
-ghost use Rattle.shorthand.specs.Layout.{width, signOf};
+ghost use Rattle.shorthand.specs.Layout.{Sign, width, signOf};
 ghost use Rattle.shorthand.specs.Facts.{Widths};
 ghost use Rattle.reading.specs.Figures.{signed, mayStand, mayMiss};
 ghost use Rattle.rows.specs.declared.Next.the-variants.{Row};
@@ -58,8 +58,8 @@ fn may_miss(kind: Kind) -> bool
 }
 
 // The sign right after an address, or its absence.
-fn read_sign(tape: &[u8], kind: Kind, front: Next) -> SignRead
-    ensures { λ r. ⌜ signTold (rowsAt (now (tape .entry)) front) r ≡ signed (length (now (tape .entry))) (signOf kind) (rowsAt (now (tape .entry)) front) ⌝ }
+fn read_sign(tape: &[u8], stands: bool, misses: bool, front: Next) -> SignRead
+    ensures { λ r. ⌜ ((s : Sign) → stands ≡ mayStand s → misses ≡ mayMiss s → signTold (rowsAt (now (tape .entry)) front) r ≡ signed (length (now (tape .entry))) s (rowsAt (now (tape .entry)) front)) ⌝ }
 {
     let Next::Row {
         character,
@@ -74,14 +74,14 @@ fn read_sign(tape: &[u8], kind: Kind, front: Next) -> SignRead
     };
     match character {
         43 | 45 => {
-            if may_stand(kind) {
+            if stands {
                 SignRead::Minus(character == 45)
             } else {
                 SignRead::Refused(Refusal { number: 12, place })
             }
         }
         _ => {
-            if may_miss(kind) {
+            if misses {
                 SignRead::Minus(false)
             } else {
                 SignRead::Refused(Refusal { number: 12, place })
@@ -160,11 +160,19 @@ fn mean(at: usize, kind: Kind, minus: bool, m: u64) -> Meant
 }
 
 // The digits behind the sign, and what they mean.
-fn read_magnitude(tape: &[u8], at: usize, kind: Kind, minus: bool, front: Next) -> DataRead
-    requires { ⌜ Widths kind ⌝ }
+fn read_magnitude(
+    tape: &[u8],
+    at: usize,
+    kind: Kind,
+    missing: Missing,
+    digits: usize,
+    minus: bool,
+    front: Next,
+) -> DataRead
+    requires { ⌜ Widths kind × (missing ≡ missingOf kind) × (digits ≡ width kind) ⌝ }
     ensures { λ r. ⌜ dataTold (now (tape .entry)) r ≡ magnitudeAt (length (now (tape .entry))) at kind minus (rowsAt (now (tape .entry)) front) ⌝ }
 {
-    match read_figures(tape, front, 11, missing_of(kind), width_of(kind)) {
+    match read_figures(tape, front, 11, missing, digits) {
         FiguresRead::Number(m, rest) => match mean(at, kind, minus, m) {
             Meant::Is(x) => DataRead::Is(x, rest),
             Meant::Refused(r) => DataRead::Refused(r),
@@ -173,13 +181,18 @@ fn read_magnitude(tape: &[u8], at: usize, kind: Kind, minus: bool, front: Next) 
     }
 }
 
-// The data behind an address: the sign, and then the digits.
+// The data behind an address: the sign, and then the digits. What the kind allows is asked for first, so that it is told apart once.
 fn read_data(tape: &[u8], at: usize, kind: Kind, front: Next) -> DataRead
     requires { ⌜ Widths kind ⌝ }
     ensures { λ r. ⌜ dataTold (now (tape .entry)) r ≡ dataAt (length (now (tape .entry))) at kind (rowsAt (now (tape .entry)) front) ⌝ }
 {
-    match read_sign(tape, kind, front) {
-        SignRead::Minus(minus) => { read_magnitude(tape, at, kind, minus, pass_sign(tape, front)) }
+    let missing = missing_of(kind);
+    let digits = width_of(kind);
+    match read_sign(tape, may_stand(kind), may_miss(kind), front) {
+        SignRead::Minus(minus) => {
+            let next = pass_sign(tape, front);
+            read_magnitude(tape, at, kind, missing, digits, minus, next)
+        }
         SignRead::Refused(r) => DataRead::Refused(r),
     }
 }

@@ -1,22 +1,23 @@
 // The small parsers over kept rows: an end, and the digits of a number.
 ghost use mathlib.Core.Path.{_≡_};
-ghost use Prim.Native.Nat.{_*_, _^_, _≤_, _<_};
+ghost use Prim.Native.Nat.{_-_, _*_, _^_, _≤_, _<_};
 ghost use lib.ListN.{length};
 ghost use mathlib.Core.List.{[]};
 ghost use Rattle.rows.specs.Answer.{refusal};
-ghost use Rattle.rows.specs.Kept.{keptAt, firstOf};
+ghost use Rattle.rows.specs.Kept.{keptAt};
 ghost use Rattle.reading.specs.Figures.{wrong, afterCR, ended, run, fewest, restored, figures};
 ghost use Rattle.reading.specs.Front.{rowsAt, digitFront, digitsTold, foundTold, endTold, figuresTold};
 use crate::Digits;
 use crate::EndFound;
 use crate::EndRead;
 use crate::FiguresRead;
+use crate::Stretch;
 use rows::Next;
 use rows::Refusal;
 use shorthand::Missing;
 
 // The row found at the front, or the end of the tape, refused.
-fn refuse_front(tape: &[u8], front: Next, short: u32, other: u32) -> Refusal
+pub(crate) fn refuse_front(tape: &[u8], front: Next, short: u32, other: u32) -> Refusal
     ensures { λ r. ⌜ refusal {A = Unit {0}} r ≡ wrong (length (now (tape .entry))) short other (rowsAt (now (tape .entry)) front) ⌝ }
 {
     match front {
@@ -95,28 +96,35 @@ pub(crate) fn read_end(tape: &[u8], front: Next, short: u32, other: u32) -> EndR
     }
 }
 
-// The next kept row. Behind a digit it is most often the next row, another digit.
-fn next_digit(tape: &[u8], at: usize) -> Next
-    ensures { λ r. ⌜ r ≡ firstOf (keptAt (now (tape .entry)) at) ⌝ }
+// Digits one right behind another from a row on, behind those that were read before.
+fn read_stretch(tape: &[u8], start: usize, most: usize, before: u64, had: usize) -> Stretch
+    requires { ⌜ (had ≤ most) × (most ≤ 18) × (before < 10 ^ had) ⌝ }
+    ensures on { λ r. ⌜ run (most - had) before had (keptAt (now (tape .entry)) start) ≡ run (most - r .count) (r .number) (r .count) (keptAt (now (tape .entry)) (r .at)) ⌝ }
+    ensures size { λ r. ⌜ (r .number < 10 ^ r .count) × (r .count ≤ most) × (had ≤ r .count) ⌝ }
 {
-    if at < tape.len() {
+    let mut number = before;
+    let mut count = had;
+    let mut at = start;
+    while count < most {
+        if tape.len() <= at {
+            return Stretch { number, count, at };
+        }
         let c = tape[at] % 128;
         match c {
-            48..=57 => {
-                return Next::Row {
-                    character: c,
-                    place: at,
-                    after: at + 1,
-                };
+            48..=57 => {}
+            _ => {
+                return Stretch { number, count, at };
             }
-            _ => {}
         }
+        number = number * 10 + (c - 48) as u64;
+        count += 1;
+        at += 1;
     }
-    rows::next_kept(tape, at)
+    Stretch { number, count, at }
 }
 
-// At most so many digits.
-fn read_digits(tape: &[u8], start: Next, most: usize) -> Digits
+// At most so many digits. Behind a digit the next row is most often another.
+pub(crate) fn read_digits(tape: &[u8], start: Next, most: usize) -> Digits
     requires { ⌜ most ≤ 18 ⌝ }
     ensures { λ r. ⌜ digitsTold (now (tape .entry)) r ≡ run most 0 0 (rowsAt (now (tape .entry)) start) ⌝ }
 {
@@ -146,9 +154,11 @@ fn read_digits(tape: &[u8], start: Next, most: usize) -> Digits
                 };
             }
         }
-        number = number * 10 + (character - 48) as u64;
-        count += 1;
-        front = next_digit(tape, after);
+        let with = number * 10 + (character - 48) as u64;
+        let stretch = read_stretch(tape, after, most, with, count + 1);
+        number = stretch.number;
+        count = stretch.count;
+        front = rows::next_kept(tape, stretch.at);
     }
     Digits {
         number,
@@ -157,7 +167,7 @@ fn read_digits(tape: &[u8], start: Next, most: usize) -> Digits
     }
 }
 
-fn is_digit_next(front: Next) -> bool
+pub(crate) fn is_digit_next(front: Next) -> bool
     ensures { λ r. ⌜ r ≡ digitFront front ⌝ }
 {
     match front {

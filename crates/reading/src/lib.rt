@@ -60,6 +60,13 @@ pub struct Digits {
     pub front: Next,
 }
 
+// Digits one right behind another: the number and how many they make with those before, and the place behind them.
+pub struct Stretch {
+    pub number: u64,
+    pub count: usize,
+    pub at: usize,
+}
+
 pub enum FiguresRead {
     Number(u64, Next),
     Refused(Refusal),

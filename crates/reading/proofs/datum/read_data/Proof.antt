@@ -1,10 +1,23 @@
 -- `reading::datum::read_data`: each arm rewrites by the sign that was read.
 use mathlib.Core.Path.{_∙_, sym, ap}
-use borrow.Author.Needs.{needs}
+use Rattle.shorthand.specs.Layout.{signOf}
 use Rattle.reading.specs.Front.{signTold}
 use Rattle.reading.specs.Parse.{dataAt}
+use borrow.Author.Needs.{needs}
 use Rattle.reading.proofs.datum.read_data.Statement.{statement}
 use Rattle.reading.proofs.datum.read_data.Tie as tie
+
+missing-of-requires : tie.Need-missing-of-requires
+missing-of-requires c κs = search needs
+
+width-of-requires : tie.Need-width-of-requires
+width-of-requires c κs = search needs
+
+may-stand-requires : tie.Need-may-stand-requires
+may-stand-requires c κs = search needs
+
+may-miss-requires : tie.Need-may-miss-requires
+may-miss-requires c κs = search needs
 
 read-sign-requires : tie.Need-read-sign-requires
 read-sign-requires c κs = search needs
@@ -16,24 +29,27 @@ pass-sign-requires : tie.Need-pass-sign-requires
 pass-sign-requires c κs = search needs
 
 read-magnitude-requires : tie.Need-read-magnitude-requires
-read-magnitude-requires c κs = search needs
+read-magnitude-requires c κs = (c .before .before .before .before .before .before .before .before .before .before .pre, c .before .before .before .before .before .before .before .before .missing-of .ensures, c .before .before .before .before .before .before .before .width-of .ensures)
 
 enum-known-r : tie.Need-enum-known-r
 enum-known-r c = search needs
 
 returns : tie.Need-returns
 unfolding dataAt
-returns c =
-    rw (sym (c .before .before .before .before .before .read-sign .ensures) ∙ ap (signTold _) (c .before .before .before .minus .given .1), sym (c .before .pass-sign .ensures)) (c .read-magnitude .ensures)
+returns c = rw (sym (c .before .before .before .before .before .read-sign .ensures (signOf (c .before .before .before .before .before .before .before .before .before .before .before .args .kind)) (c .before .before .before .before .before .before .before .may-stand .ensures) (c .before .before .before .before .before .before .may-miss .ensures)) ∙ ap (signTold _) (c .before .before .before .minus .given .1), sym (c .before .pass-sign .ensures)) (c .read-magnitude .ensures)
 
 returns-2 : tie.Need-returns-2
 unfolding dataAt
-returns-2 c = rw (sym (c .before .before .before .read-sign .ensures) ∙ ap (signTold _) (c .before .r .given .1))
+returns-2 c = rw (sym (c .before .before .before .read-sign .ensures (signOf (c .before .before .before .before .before .before .before .before .before .args .kind)) (c .before .before .before .before .before .may-stand .ensures) (c .before .before .before .before .may-miss .ensures)) ∙ ap (signTold _) (c .before .r .given .1))
 
 pub read-data-spec : {M : Type 1} → statement M
 read-data-spec =
     tie.close
     (tie.spec
+    missing-of-requires
+    width-of-requires
+    may-stand-requires
+    may-miss-requires
     read-sign-requires
     enum-known-minus
     pass-sign-requires

@@ -3,7 +3,6 @@ use mathlib.Core.Path.{_≡_, _∙_, sym, ap}
 use native.Mathlib.Nat.{lt-of-lt-of-le}
 use lib.ListN.{length}
 use denote.Ref.{now}
-use borrow.Author.Needs.{needs}
 use Rattle.speeds.proofs.Tens.{ten-grows}
 use Rattle.shorthand.specs.Layout.{width}
 use Rattle.reading.specs.Figures.{figures}
@@ -11,32 +10,23 @@ use Rattle.reading.specs.Front.{rowsAt, figuresTold, meantTold}
 use Rattle.reading.specs.Parse.{missingOf}
 use Rattle.reading.proofs.DigitRun.{figures-below}
 use Rattle.reading.proofs.Widths.{width-most}
+use borrow.Author.Needs.{needs}
 use Rattle.reading.proofs.datum.read_magnitude.Statement.{statement}
 use Rattle.reading.proofs.datum.read_magnitude.Tie as tie
 
 figures-are : (c : tie.After-read-figures) →
-    let args = c .before .before .before .before .args in
-    figures (length (now (args .tape))) 11 (missingOf (args .kind)) (width (args .kind)) (rowsAt (now (args .tape)) (args .front))
-    ≡ figuresTold (now (args .tape)) (c .read-figures .result)
-figures-are c = rw (← c .before .before .missing-of .ensures, ← c .before .width-of .ensures) (sym (c .read-figures .ensures))
-
-missing-of-requires : tie.Need-missing-of-requires
-missing-of-requires c κs = search needs
-
-width-of-requires : tie.Need-width-of-requires
-width-of-requires c κs = search needs
+    let args = c .before .before .args in
+    figures (length (now (args .tape))) 11 (missingOf (args .kind)) (width (args .kind)) (rowsAt (now (args .tape)) (args .front)) ≡ figuresTold (now (args .tape)) (c .read-figures .result)
+figures-are c = rw (← c .before .before .pre .1, ← c .before .before .pre .2) (sym (c .read-figures .ensures))
 
 read-figures-requires : tie.Need-read-figures-requires
-read-figures-requires c κs = rw (c .width-of .ensures) (width-most (c .before .before .before .args .kind) (c .before .before .before .pre))
+read-figures-requires c κs = rw (c .before .pre .2) (width-most (c .before .args .kind) (c .before .pre .0))
 
 enum-known-m : tie.Need-enum-known-m
 enum-known-m c = search needs
 
 mean-requires : tie.Need-mean-requires
-mean-requires c κs =
-    let start = c .before .before .before .before .before .before .before in
-    lt-of-lt-of-le (figures-below _ _ _ _ _ _ _ (figures-are (c .before .before .before) ∙ ap (figuresTold _) (c .before .m .given .1)))
-    (ten-grows (width-most (start .args .kind) (start .pre)))
+mean-requires c κs = lt-of-lt-of-le (figures-below _ _ _ _ _ _ _ (figures-are (c .before .before .before) ∙ ap (figuresTold _) (c .before .m .given .1))) (ten-grows (width-most (c .before .before .before .before .before .args .kind) (c .before .before .before .before .before .pre .0)))
 
 enum-known-x : tie.Need-enum-known-x
 enum-known-x c = search needs
@@ -48,14 +38,10 @@ enum-known-r-2 : tie.Need-enum-known-r-2
 enum-known-r-2 c = search needs
 
 returns : tie.Need-returns
-returns c =
-    let number = c .before .before .before .before .before in
-    rw (figures-are (number .before .before) ∙ ap (figuresTold _) (number .m .given .1), sym (c .before .before .before .mean .ensures) ∙ ap meantTold (c .before .x .given .1))
+returns c = rw (figures-are (c .before .before .before .before .before .before .before) ∙ ap (figuresTold _) (c .before .before .before .before .before .m .given .1), sym (c .before .before .before .mean .ensures) ∙ ap meantTold (c .before .x .given .1))
 
 returns-2 : tie.Need-returns-2
-returns-2 c =
-    let number = c .before .before .before .before .before in
-    rw (figures-are (number .before .before) ∙ ap (figuresTold _) (number .m .given .1), sym (c .before .before .before .mean .ensures) ∙ ap meantTold (c .before .r .given .1))
+returns-2 c = rw (figures-are (c .before .before .before .before .before .before .before) ∙ ap (figuresTold _) (c .before .before .before .before .before .m .given .1), sym (c .before .before .before .mean .ensures) ∙ ap meantTold (c .before .r .given .1))
 
 returns-3 : tie.Need-returns-3
 returns-3 c = rw (figures-are (c .before .before .before) ∙ ap (figuresTold _) (c .before .r2 .given .1))
@@ -64,8 +50,6 @@ pub read-magnitude-spec : {M : Type 1} → statement M
 read-magnitude-spec =
     tie.close
     (tie.spec
-    missing-of-requires
-    width-of-requires
     read-figures-requires
     enum-known-m
     mean-requires

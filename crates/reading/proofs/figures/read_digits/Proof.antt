@@ -1,12 +1,12 @@
 -- `reading::figures::read_digits`: the run from the start is the run that is left, and the number is below the power of ten of its digits.
-use Prim.Native.Nat.{_+_, _-_, _*_, _^_, _≤_, _<_, zero-le}
+use borrow.Author.Needs.{needs}
+use borrow.Author.Tests.{le-leb, lt-leb}
+use Prim.Native.Nat.{_-_, _^_, _≤_, _<_, zero-le}
 use mathlib.Core.Path.{_≡_, _∙_, sym}
 use native.Mathlib.Nat.{sub-zero}
 use native.Mathlib.Numerals.{add-one}
 use native.Mathlib.Omega.{arith}
 use lib.Dec.{lit<}
-use borrow.Author.Needs.{needs}
-use borrow.Author.Tests.{le-leb, lt-leb}
 use Rattle.reading.specs.Figures.{run}
 use Rattle.reading.specs.Front.{rowsAt}
 use Rattle.reading.proofs.DigitRun.{digit, run-stops, run-full, run-on, one-more, one-more-fits}
@@ -21,11 +21,6 @@ Inv-loop tape most number₀ count₀ front₀ number count front =
 abbrev μ-loop : tie.MeasureT-loop
 μ-loop tape most number₀ count₀ front₀ number count front = most - count
 
-next : (c : tie.Then2 Inv-loop μ-loop) →
-    let turn = c .before .before .before .before .before .before .loop in
-    turn .number * 10 + (c .before .before .before .front .given .0 .0 - 48) < 10 ^ 18
-next c = one-more-fits _ _ _ (c .before .before .before .before .before .before .loop .inv .1) (omega arith) (omega arith)
-
 loop-holds : tie.Need-loop-holds Inv-loop μ-loop
 loop-holds c = (rw sub-zero, lit< tt, zero-le)
 
@@ -36,49 +31,41 @@ enum-told : tie.Need-enum-told Inv-loop μ-loop
 enum-told c = search needs
 
 returns : tie.Need-returns Inv-loop μ-loop
-returns c =
-    sym (c .before .before .before .loop .inv .0 ∙ run-stops _ _ _ _ (rw (c .enum-told .given .1)))
+returns c = sym (c .before .before .before .loop .inv .0 ∙ run-stops _ _ _ _ (rw (c .enum-told .given .1)))
 
 returns-2 : tie.Need-returns-2 Inv-loop μ-loop
-returns-2 c =
-    sym
-    (c .before .before .before .before .before .loop .inv .0
-    ∙ rw (c .before .before .front .given .1) (run-stops _ _ _ _ (rw (lt-leb _ _ (c .if1 .taken)))))
+returns-2 c = sym (c .before .before .before .before .before .loop .inv .0 ∙ rw (c .before .before .front .given .1) (run-stops _ _ _ _ (rw (lt-leb _ _ (c .if1 .taken)))))
 
 returns-3 : tie.Need-returns-3 Inv-loop μ-loop
-returns-3 c =
-    sym
-    (c .before .before .before .before .before .before .loop .inv .0
-    ∙ rw (c .before .before .before .front .given .1) (run-stops _ _ _ _ (rw (le-leb _ _ (c .before .if1 .left), lt-leb _ _ (c .if2 .left)))))
+returns-3 c = sym (c .before .before .before .before .before .before .loop .inv .0 ∙ rw (c .before .before .before .front .given .1) (run-stops _ _ _ _ (rw (le-leb _ _ (c .before .if1 .left), lt-leb _ _ (c .if2 .left)))))
 
-mul-number : tie.Need-mul-number Inv-loop μ-loop
-mul-number c = omega (arith, next c)
+mul-with : tie.Need-mul-with Inv-loop μ-loop
+mul-with c = omega (arith, one-more-fits _ 0 _ (c .before .before .before .before .before .before .loop .inv .1) (omega arith) (omega (arith, c .before .before .before .before .before .before .before .before .pre, c .before .before .before .before .before .loop-test .taken)))
 
-cast-number : tie.Need-cast-number Inv-loop μ-loop
-cast-number c = search needs
+cast-with : tie.Need-cast-with Inv-loop μ-loop
+cast-with c = search needs
 
-add-number : tie.Need-add-number Inv-loop μ-loop
-add-number c = omega (arith, next c)
+add-with : tie.Need-add-with Inv-loop μ-loop
+add-with c = omega (arith, one-more-fits _ 9 _ (c .before .before .before .before .before .before .loop .inv .1) (omega arith) (omega (arith, c .before .before .before .before .before .before .before .before .pre, c .before .before .before .before .before .loop-test .taken)), c .if2 .taken)
 
-add-count : tie.Need-add-count Inv-loop μ-loop
-add-count c = search needs
+add-read-stretch : tie.Need-add-read-stretch Inv-loop μ-loop
+add-read-stretch c = search needs
 
-next-digit-requires : tie.Need-next-digit-requires Inv-loop μ-loop
-next-digit-requires c κs = search needs
+read-stretch-requires : tie.Need-read-stretch-requires Inv-loop μ-loop
+read-stretch-requires c κs = (omega (arith, c .before .before .before .before .before .loop-test .taken), c .before .before .before .before .before .before .before .before .pre, rw add-one (one-more _ _ _ (c .before .before .before .before .before .before .loop .inv .1) (omega (arith, c .if2 .taken))))
+
+next-kept-requires : tie.Need-next-kept-requires Inv-loop μ-loop
+next-kept-requires c κs = search needs
 
 loop-less : tie.Need-loop-less Inv-loop μ-loop
-loop-less c = search needs
+loop-less c = omega (arith, c .before .read-stretch .ensures .1 .1, c .before .read-stretch .ensures .1 .2, c .before .before .before .before .before .before .before .loop-test .taken)
 
 loop-again : tie.Need-loop-again Inv-loop μ-loop
 loop-again c =
-    let on = c .before in
-    let row = on .before .before .before .front .given in
-    let turn = on .before .before .before .before .before .before .loop in (
-      turn .inv .0
-          ∙ rw (row .1, fetched _ _ _ (c .next-digit .ensures))
-          (run-on _ _ _ _ _ _ (on .before .before .before .before .before .loop-test .taken) (digit (row .0 .0) (omega arith) (omega arith))),
-      rw add-one (one-more _ _ _ (turn .inv .1) (omega arith)),
-      search needs,
+    let row = c .before .before .before .before .before .front .given in (
+      c .before .before .before .before .before .before .before .before .loop .inv .0 ∙ rw (row .1, fetched _ _ _ (c .next-kept .ensures)) (run-on _ _ _ _ _ _ (c .before .before .before .before .before .before .before .loop-test .taken) (digit (row .0 .0) (c .before .before .before .if1 .left) (omega (arith, c .before .before .if2 .taken))) ∙ c .before .read-stretch .ensures .0),
+      c .before .read-stretch .ensures .1 .0,
+      c .before .read-stretch .ensures .1 .1,
     )
 
 returns-4 : tie.Need-returns-4 Inv-loop μ-loop
@@ -96,11 +83,12 @@ read-digits-spec =
     returns
     returns-2
     returns-3
-    mul-number
-    cast-number
-    add-number
-    add-count
-    next-digit-requires
+    mul-with
+    cast-with
+    add-with
+    add-read-stretch
+    read-stretch-requires
+    next-kept-requires
     loop-less
     loop-again
     returns-4)
