@@ -14,6 +14,7 @@ use Rattle.shorthand.specs.declared.Format.{Format}
 use Rattle.shorthand.specs.Layout.{itemsOf}
 use Rattle.shorthand.specs.Edition.{letters, anyOf}
 use Rattle.shorthand.specs.Facts.{Widths, Fair, none, more, Facts}
+use Rattle.shorthand.proofs.OneItem.{none-other}
 use Rattle.reading.specs.declared.Value.{Value}
 use Rattle.reading.specs.declared.Word.{Word}
 use Rattle.reading.specs.declared.Block.{Block}
@@ -32,15 +33,6 @@ use Rattle.places.proofs.SpeedDigits.{spoilt-never}
 pub every-item : (P : Item → Type 0) {its : List Item} {it : Item} → List·Memᴰ it its → Every P its → P it
 every-item P (List·Memᴰ·head e) all = subst P (sym e) (all .0)
 every-item P (List·Memᴰ·tail m) all = every-item P m (all .1)
-
-none-other : (x : ℕ) (its : List Item) → T (not (anyOf (λ c. eqb c x) (map (λ i. i .letter) its))) → Every (λ i. i .letter ≡ x → ⊥) its
-none-other x [] t = tt
-none-other x (it ∷ its) t = go (eqb (it .letter) x) refl t (none-other x its)
-  where
-    go : (b : Bool) → eqb (it .letter) x ≡ b → T (not (b || anyOf (λ c. eqb c x) (map (λ i. i .letter) its)))
-        → (T (not (anyOf (λ c. eqb c x) (map (λ i. i .letter) its))) → Every (λ i. i .letter ≡ x → ⊥) its) → Every (λ i. i .letter ≡ x → ⊥) (it ∷ its)
-    go true e t rest = absurd t
-    go false e t rest = (eqb-false (it .letter) x e, rest t)
 
 -- another item with the same letter has the same kind
 abbrev pub Same : Item → Item → Type 0

@@ -27,14 +27,14 @@ fair-at (more letter widths other rest) zero l = widths
 fair-at (more letter widths other rest) (suc k) l = fair-at rest k (le-of-suc-le-suc l)
 
 module _ (f : Format) (h : Facts f) where
-  counted : f .count ≡ length (itemsOf f)
+  pub counted : f .count ≡ length (itemsOf f)
   counted = ap (λ g. g .count) (h .parts)
 
   -- a Format has 22 places, and its items are the first of them
   pub room : length (f .items) ≡ 22
   room = let e = simp (length-append, length-replicate) at (ap (λ g. length (g .items)) (h .parts)) in omega (arith, counted, h .few)
 
-  item-is : (k : ℕ) → k < f .count → getD (itemsOf f) k blank ≡ getD (f .items) k blank
+  pub item-is : (k : ℕ) → k < f .count → getD (itemsOf f) k blank ≡ getD (f .items) k blank
   item-is k l = getD-take (f .count) (f .items) k blank l
 
   pub item-at : (k : ℕ) → k < f .count → drop k (itemsOf f) ≡ getD (f .items) k blank ∷ drop (k + 1) (itemsOf f)

@@ -27,6 +27,7 @@ pub mod Signs
 pub mod Widths
 pub mod Wrong
 pub mod ItemSteps
+pub mod DueItems
 pub mod Gathering
 pub mod Started
 pub mod BlockWalk

@@ -5,3 +5,4 @@ pub mod Figures
 pub mod Parse
 pub mod Answers
 pub mod Front
+pub mod Items

@@ -10,6 +10,7 @@ ghost use Rattle.reading.specs.Front.{countTold, partOf, hasBlock};
 pub mod blocks;
 pub mod datum;
 pub mod figures;
+pub mod items;
 mod walk;
 pub mod words;
 

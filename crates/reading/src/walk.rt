@@ -24,6 +24,8 @@ use crate::blocks::open_block;
 use crate::blocks::pass_block;
 use crate::blocks::read_head;
 use crate::figures::find_end;
+use crate::items::due_item;
+use crate::items::lead_letters;
 use crate::words::pass_item;
 use rows::Checked;
 use rows::Next;
@@ -57,6 +59,7 @@ fn survey_blocks(tape: &[u8], format: Format, n: usize, first: usize, start: Nex
     ensures part { λ r. ⌜ r .part ≡ partIn n (blocksAt (length (rowsAt (now (tape .entry)) start)) (length (now (tape .entry))) format first (rowsAt (now (tape .entry)) start)) ⌝ }
 {
     let items = format.count;
+    let leads = lead_letters(format);
     let mut front = start;
     let mut from = first;
     let mut count: usize = 0;
@@ -75,7 +78,7 @@ fn survey_blocks(tape: &[u8], format: Format, n: usize, first: usize, start: Nex
                 Passed::Behind(next) => {
                     front = next;
                     closed = false;
-                    k = 0;
+                    k = due_item(&leads[..], format.dots, 0, next);
                 }
                 Passed::Refused(r) => {
                     break r;
@@ -89,7 +92,7 @@ fn survey_blocks(tape: &[u8], format: Format, n: usize, first: usize, start: Nex
                 }
                 Passed::Behind(next) => {
                     front = next;
-                    k += 1;
+                    k = due_item(&leads[..], format.dots, k + 1, next);
                 }
                 Passed::Refused(r) => {
                     break r;

@@ -9,6 +9,7 @@ pub mod Walking
 pub mod Answered
 pub mod Accepted
 pub mod Fairness
+pub mod OneItem
 pub mod Refusals
 pub mod Fronts
 pub mod Starred
