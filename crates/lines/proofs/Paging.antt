@@ -21,7 +21,9 @@ use Rattle.reading.specs.declared.Block.{Block}
 use Rattle.reading.specs.Record.{blank as no-word, blockOf}
 use Rattle.reading.specs.Figures.{Behind, taking, ended}
 use Rattle.reading.specs.Parse.{wordAt, consWord, wordsAt, BlockRead, Entry, entry, blockAt, blocksAt}
+use Rattle.reading.specs.Items.{Leads, LeftOut}
 use Rattle.reading.specs.Front.{Standing, stops, out, at, standing, restOf, nothing, past, itemPassed, itemAt, Begun, startAt, openedAt, Rising, over}
+use Rattle.reading.proofs.DueItems.{left-out}
 use Rattle.reading.proofs.BlockWalk.{before, before-none, before-more, Advances, advances}
 use Rattle.reading.proofs.Gathering.{prepend, prepend-none}
 use Rattle.reading.proofs.ItemSteps.{resumed, words-turn, words-over}
@@ -144,8 +146,11 @@ module _ (len : ℕ) (f : Format) (most first : ℕ) (start : List KeptRow) (l�
     pub words : List Word
     pub left : blockAt len f (row ∷ others) ≡ (wordsAt len (f .dots) (drop k (itemsOf f)) rs >>= withWords len begins words)
     pub put : Put line from (startText (f .sequence) (begins .skip) (begins .alignment) (begins .sequence) ++ wordsText words) l bytes
-    pub upto : k ≤ f .count
-    pub short : bytes ≤ from + f .sequence + 24 + 23 * k
+    -- how many items had their turn
+    pub had : ℕ
+    pub turns : had ≤ k
+    pub upto : had ≤ f .count
+    pub short : bytes ≤ from + f .sequence + 24 + 23 * had
 
   -- between two blocks, or inside one
   abbrev pub Along : Bool → ℕ → ℕ → List KeptRow → ℕ → List ℕ → ℕ → Type 0
@@ -265,6 +270,8 @@ module _ (len : ℕ) (f : Format) (most first : ℕ) (start : List KeptRow) (l�
               words = [];
               left = begun len f (r ∷ u) ∙ rw (i, same);
               put = rw append-nil k;
+              had = 0;
+              turns = zero-le;
               upto = zero-le;
               short = omega (arith, n);
             }
@@ -286,7 +293,7 @@ module _ (len : ℕ) (f : Format) (most first : ℕ) (start : List KeptRow) (l�
     module _ (h : Facts f) {next k blocks bytes : ℕ} {rs : List KeptRow} {l : List ℕ} (g : Inside next k rs blocks l bytes) where
       -- the line that was begun still has room
       pub line-fits : bytes + 1 + 23 * (f .count - k) ≤ length l
-      line-fits = rw (put-length (g .put), put-length (g .before .put)) (omega (arith, g .short, g .upto, g .before .short, fits blocks (g .less)))
+      line-fits = rw (put-length (g .put), put-length (g .before .put)) (omega (arith, g .short, g .turns, g .upto, g .before .short, fits blocks (g .less)))
 
       abbrev begunText : List ℕ
       begunText = startText (f .sequence) (g .begins .skip) (g .begins .alignment) (g .begins .sequence)
@@ -296,6 +303,25 @@ module _ (len : ℕ) (f : Format) (most first : ℕ) (start : List KeptRow) (l�
 
       refused-by : (m p : ℕ) → blockAt len f (g .row ∷ g .others) ≡ refused m p → all ≡ refused m p
       refused-by m p e = block-refused (g .row) (g .others) (g .before) (g .less) m p e
+
+      -- the items that are left out at the front
+      pub skips : {leads : List ℕ} → Leads f leads → (r : ℕ) → LeftOut leads (f .dots) k r rs → Inside next r rs blocks l bytes
+      skips {leads} e r o = record {
+        row = g .row;
+        others = g .others;
+        line = g .line;
+        from = g .from;
+        before = g .before;
+        less = g .less;
+        begins = g .begins;
+        words = g .words;
+        left = left-by (left-out len f h leads e rs k r o);
+        put = g .put;
+        had = g .had;
+        turns = omega (arith, g .turns, o .on);
+        upto = g .upto;
+        short = g .short;
+      }
 
       module _ (more : k < f .count) where
         abbrev item : Item
@@ -323,8 +349,10 @@ module _ (len : ℕ) (f : Format) (most first : ℕ) (start : List KeptRow) (l�
               words = g .words;
               left = left-by {a = taking [] rs} (turn ∙ rw s) ∙ sym (ap (λ a. a >>= withWords len (g .begins) (g .words)) (words-over len f h rs (f .count) (le-refl _)));
               put = rw append-nil at (put-more (g .put) none);
-              upto = le-refl _;
-              short = omega (arith, g .short, g .upto);
+              had = g .had;
+              turns = g .upto;
+              upto = g .upto;
+              short = g .short;
             }
 
         pub item-behind : (v : List KeptRow) (l₂ : List ℕ) (e : ℕ) → itemAt len (f .dots) (getD (f .items) k blank) rs ≡ taken (past v)
@@ -340,8 +368,10 @@ module _ (len : ℕ) (f : Format) (most first : ℕ) (start : List KeptRow) (l�
           words = g .words ++ itemWords len item how;
           left = left-by (turn ∙ passed-by len (f .dots) item (drop (k + 1) (itemsOf f)) rs how v i) ∙ with-more len (g .begins) (g .words) (itemWords len item how) (wordsAt len (f .dots) (drop (k + 1) (itemsOf f)) v);
           put = put-as (append-assoc begunText (wordsText (g .words)) (wordsText (itemWords len item how)) ∙ ap (λ t. begunText ++ t) (sym (words-more (g .words) (itemWords len item how)))) (put-more (g .put) q);
+          had = k + 1;
+          turns = le-refl _;
           upto = omega arith;
-          short = omega (arith, g .short, n);
+          short = omega (arith, g .short, g .turns, n);
         }
 
         pub item-refused : (m p : ℕ) → itemAt len (f .dots) (getD (f .items) k blank) rs ≡ refused m p → all ≡ refused m p

@@ -24,6 +24,8 @@ use reading::WordRead;
 use reading::blocks::read_start;
 use reading::datum::read_word;
 use reading::figures::find_end;
+use reading::items::due_item;
+use reading::items::lead_letters;
 use reading::words::reach_item;
 use rows::Checked;
 use rows::Next;
@@ -85,6 +87,7 @@ fn fill_page(tape: &[u8], format: Format, most: usize, first: usize, buffer: &mu
     ensures within { λ r. ⌜ sizeIn r ≤ length (now (buffer .entry)) ⌝ }
 {
     let items = format.count;
+    let leads = lead_letters(format);
     let mut front = rows::next_kept(tape, first);
     let mut next = first;
     let mut blocks: usize = 0;
@@ -112,7 +115,7 @@ fn fill_page(tape: &[u8], format: Format, most: usize, first: usize, buffer: &mu
                     front = row;
                     bytes = end;
                     closed = false;
-                    k = 0;
+                    k = due_item(&leads[..], format.dots, 0, row);
                 }
                 Step::Refused(r) => {
                     return Page::Refused(r);
@@ -127,7 +130,7 @@ fn fill_page(tape: &[u8], format: Format, most: usize, first: usize, buffer: &mu
                 Step::Behind(row, end) => {
                     front = row;
                     bytes = end;
-                    k += 1;
+                    k = due_item(&leads[..], format.dots, k + 1, row);
                 }
                 Step::Refused(r) => {
                     return Page::Refused(r);

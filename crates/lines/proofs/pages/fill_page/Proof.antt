@@ -2,6 +2,7 @@
 use borrow.Author.Needs.{needs}
 use mathlib.Core.Path.{_∙_, sym, ap}
 use mathlib.Core.Bool.{cond}
+use mathlib.Core.List.{[]}
 use Prim.Native.Nat.{_+_, _-_, _*_}
 use native.Mathlib.Omega.{arith}
 use lib.ListN.{length}
@@ -12,17 +13,20 @@ use Rattle.reading.proofs.InBlock.{over}
 use Rattle.reading.proofs.ItemSteps.{widths-at}
 use Rattle.lines.specs.Steps.{stepTold}
 use Rattle.lines.proofs.Puts.{put-length}
-use Rattle.lines.proofs.Paging.{Along, inside, still-inside, between, as-long, rising-at, none-yet, says-refused, page-full, tape-over, start-fits, opens, opens-refused, line-fits, item-stops, item-behind, item-refused, end-refused, lf-within, closes}
+use Rattle.lines.proofs.Paging.{Along, inside, still-inside, between, as-long, rising-at, none-yet, says-refused, page-full, tape-over, start-fits, opens, opens-refused, line-fits, skips, item-stops, item-behind, item-refused, end-refused, lf-within, closes}
 use Rattle.lines.proofs.pages.fill_page.Statement.{statement}
 use Rattle.lines.proofs.pages.fill_page.Tie as tie
 
 abbrev Inv-loop : tie.InvT-loop
-Inv-loop tape most first buffer₀ format items front₀ next₀ blocks₀ bytes₀ closed₀ k₀ buffer front next blocks bytes closed k =
+Inv-loop tape most first buffer₀ format items leads front₀ next₀ blocks₀ bytes₀ closed₀ k₀ buffer front next blocks bytes closed k =
     Along (length tape) format most first (keptAt tape first) buffer₀ closed next k (rowsAt tape front) blocks buffer bytes
 
 abbrev μ-loop : tie.MeasureT-loop
-μ-loop tape most first buffer₀ format items front₀ next₀ blocks₀ bytes₀ closed₀ k₀ buffer front next blocks bytes closed k =
+μ-loop tape most first buffer₀ format items leads front₀ next₀ blocks₀ bytes₀ closed₀ k₀ buffer front next blocks bytes closed k =
     (most - blocks) * 24 + cond closed 23 (22 - k)
+
+lead-letters-requires : tie.Need-lead-letters-requires Inv-loop μ-loop
+lead-letters-requires c κs = c .before .before .pre .0
 
 next-kept-requires : tie.Need-next-kept-requires Inv-loop μ-loop
 next-kept-requires c κs = search needs
@@ -34,12 +38,12 @@ same-length : tie.Need-same-length Inv-loop μ-loop
 same-length c = put-length (between _ _ _ _ _ _ _ _ (c .before .if1 .taken) (c .before .before .loop .inv) .put)
 
 returns : tie.Need-returns Inv-loop μ-loop
-returns c = page-full _ _ _ _ _ _ (c .before .before .before .before .before .before .pre .1) (between _ _ _ _ _ _ _ _ (c .before .if1 .taken) (c .before .before .loop .inv)) (c .if2 .taken)
+returns c = page-full _ _ _ _ _ _ (c .before .before .before .before .before .before .before .pre .1) (between _ _ _ _ _ _ _ _ (c .before .if1 .taken) (c .before .before .loop .inv)) (c .if2 .taken)
 
 start-line-requires : tie.Need-start-line-requires Inv-loop μ-loop
 start-line-requires c κs =
     let g = between _ _ _ _ _ _ _ _ (c .before .before .if1 .taken) (c .before .before .before .loop .inv) in
-    (omega (arith, c .before .before .before .before .before .before .before .pre .0 .sequence .1), start-fits _ _ _ _ _ _ (c .before .before .before .before .before .before .before .pre .1) g (omega (arith, g .upto, c .before .if2 .left)))
+    (omega (arith, c .before .before .before .before .before .before .before .before .pre .0 .sequence .1), start-fits _ _ _ _ _ _ (c .before .before .before .before .before .before .before .before .pre .1) g (omega (arith, g .upto, c .before .if2 .left)))
 
 enum-told : tie.Need-enum-told Inv-loop μ-loop
 enum-told c = search needs
@@ -50,19 +54,26 @@ same-length-2 c = put-length (c .before .before .before .before .start-line .ens
 returns-2 : tie.Need-returns-2 Inv-loop μ-loop
 returns-2 c =
     let g = between _ _ _ _ _ _ _ _ (c .before .before .before .before .before .before .before .if1 .taken) (c .before .before .before .before .before .before .before .before .loop .inv) in
-    tape-over _ _ _ _ _ _ (c .before .before .before .before .before .before .before .before .before .before .before .before .pre .1) _ g _ (over _ _ _ (sym (c .before .before .before .before .start-line .ensures .0) ∙ ap (stepTold _) (c .enum-told .given .1))) (rw (c .enum-told .given .1) at (c .before .before .before .before .start-line .ensures .1 .0))
+    tape-over _ _ _ _ _ _ (c .before .before .before .before .before .before .before .before .before .before .before .before .before .pre .1) _ g _ (over _ _ _ (sym (c .before .before .before .before .start-line .ensures .0) ∙ ap (stepTold _) (c .enum-told .given .1))) (rw (c .enum-told .given .1) at (c .before .before .before .before .start-line .ensures .1 .0))
 
 enum-known-row : tie.Need-enum-known-row Inv-loop μ-loop
 enum-known-row c = search needs
 
+slice-aggregate-due-item : tie.Need-slice-aggregate-due-item Inv-loop μ-loop
+slice-aggregate-due-item c = search needs
+
+due-item-requires : tie.Need-due-item-requires Inv-loop μ-loop
+due-item-requires c κs = (c .before .before .before .before .before .before .before .before .before .before .before .before .lead-letters .ensures .all, omega arith)
+
 loop-less : tie.Need-loop-less Inv-loop μ-loop
-loop-less c = rw (c .before .before .before .before .before .before .before .before .if1 .taken) (omega arith)
+loop-less c = rw (c .before .before .before .before .before .before .before .before .before .before .if1 .taken) (omega arith)
 
 loop-again : tie.Need-loop-again Inv-loop μ-loop
 loop-again c =
-    let g = between _ _ _ _ _ _ _ _ (c .before .before .before .before .before .before .before .before .if1 .taken) (c .before .before .before .before .before .before .before .before .before .loop .inv) in
-    let told = sym (c .before .before .before .before .before .start-line .ensures .0) ∙ ap (stepTold _) (c .before .row .given .1) in
-    opens _ _ _ _ _ _ (c .before .before .before .before .before .before .before .before .before .before .before .before .before .pre .1) _ g (omega (arith, g .upto, c .before .before .before .before .before .before .before .if2 .left)) _ _ _ told (rw (c .before .row .given .1) at (c .before .before .before .before .before .start-line .ensures .1 .0)) (rw (c .before .row .given .1) at (c .before .before .before .before .before .start-line .ensures .1 .1))
+    let g = between _ _ _ _ _ _ _ _ (c .before .before .before .before .before .before .before .before .before .before .if1 .taken) (c .before .before .before .before .before .before .before .before .before .before .before .loop .inv) in
+    let told = sym (c .before .before .before .before .before .before .before .start-line .ensures .0) ∙ ap (stepTold _) (c .before .before .before .row .given .1) in
+    let o = opens _ _ _ _ _ _ (c .before .before .before .before .before .before .before .before .before .before .before .before .before .before .before .before .pre .1) _ g (omega (arith, g .upto, c .before .before .before .before .before .before .before .before .before .if2 .left)) _ _ _ told (rw (c .before .before .before .row .given .1) at (c .before .before .before .before .before .before .before .start-line .ensures .1 .0)) (rw (c .before .before .before .row .given .1) at (c .before .before .before .before .before .before .before .start-line .ensures .1 .1)) in
+    skips _ _ _ _ _ _ (c .before .before .before .before .before .before .before .before .before .before .before .before .before .before .before .before .pre .1) (c .before .before .before .before .before .before .before .before .before .before .before .before .before .before .before .before .pre .0) o (c .before .before .before .before .before .before .before .before .before .before .before .before .before .lead-letters .ensures) _ (c .due-item .ensures _)
 
 enum-known-r : tie.Need-enum-known-r Inv-loop μ-loop
 enum-known-r c = search needs
@@ -74,7 +85,7 @@ returns-3 : tie.Need-returns-3 Inv-loop μ-loop
 returns-3 c =
     let g = between _ _ _ _ _ _ _ _ (c .before .before .before .before .before .before .before .before .if1 .taken) (c .before .before .before .before .before .before .before .before .before .loop .inv) in
     let told = sym (c .before .before .before .before .before .start-line .ensures .0) ∙ ap (stepTold _) (c .before .r .given .1) in
-    says-refused _ _ _ _ _ _ _ _ _ (opens-refused _ _ _ _ _ _ (c .before .before .before .before .before .before .before .before .before .before .before .before .before .pre .1) _ g (omega (arith, g .upto, c .before .before .before .before .before .before .before .if2 .left)) _ _ told)
+    says-refused _ _ _ _ _ _ _ _ _ (opens-refused _ _ _ _ _ _ (c .before .before .before .before .before .before .before .before .before .before .before .before .before .before .pre .1) _ g (omega (arith, g .upto, c .before .before .before .before .before .before .before .if2 .left)) _ _ told)
 
 mul-item : tie.Need-mul-item Inv-loop μ-loop
 mul-item c = search needs
@@ -85,34 +96,41 @@ element-copy-out-item c = search needs
 add-item-requires : tie.Need-add-item-requires Inv-loop μ-loop
 add-item-requires c κs =
     let g = inside _ _ _ _ _ _ _ _ (c .before .before .before .if1 .left) (c .before .before .before .before .loop .inv) in
-    (widths-at _ (c .before .before .before .before .before .before .before .before .pre .0) _ (c .before .before .if3 .taken), omega (arith, line-fits _ _ _ _ _ _ (c .before .before .before .before .before .before .before .before .pre .1) (c .before .before .before .before .before .before .before .before .pre .0) g, c .before .before .if3 .taken))
+    (widths-at _ (c .before .before .before .before .before .before .before .before .before .pre .0) _ (c .before .before .if3 .taken), omega (arith, line-fits _ _ _ _ _ _ (c .before .before .before .before .before .before .before .before .before .pre .1) (c .before .before .before .before .before .before .before .before .before .pre .0) g, c .before .before .if3 .taken))
 
 enum-told-2 : tie.Need-enum-told-2 Inv-loop μ-loop
 enum-told-2 c = search needs
 
 loop-less-2 : tie.Need-loop-less-2 Inv-loop μ-loop
-loop-less-2 c = rw (c .before .before .before .before .before .before .before .before .if1 .left) (omega (arith, c .before .before .before .before .before .before .before .before .before .before .before .before .before .pre .0 .few, c .before .before .before .before .before .before .before .if3 .taken))
+loop-less-2 c = rw (c .before .before .before .before .before .before .before .before .if1 .left) (omega (arith, c .before .before .before .before .before .before .before .before .before .before .before .before .before .before .pre .0 .few, c .before .before .before .before .before .before .before .if3 .taken))
 
 loop-again-2 : tie.Need-loop-again-2 Inv-loop μ-loop
 loop-again-2 c =
     let g = inside _ _ _ _ _ _ _ _ (c .before .before .before .before .before .before .before .before .if1 .left) (c .before .before .before .before .before .before .before .before .before .loop .inv) in
     let told = sym (c .before .before .before .before .add-item .ensures .0) ∙ ap (stepTold _) (c .enum-told2 .given .1) in
-    still-inside _ _ _ _ _ _ _ _ (c .before .before .before .before .before .before .before .before .if1 .left) (item-stops _ _ _ _ _ _ (c .before .before .before .before .before .before .before .before .before .before .before .before .before .pre .1) (c .before .before .before .before .before .before .before .before .before .before .before .before .before .pre .0) g (c .before .before .before .before .before .before .before .if3 .taken) _ told (rw (c .enum-told2 .given .1) at (c .before .before .before .before .add-item .ensures .1 .0)))
+    still-inside _ _ _ _ _ _ _ _ (c .before .before .before .before .before .before .before .before .if1 .left) (item-stops _ _ _ _ _ _ (c .before .before .before .before .before .before .before .before .before .before .before .before .before .before .pre .1) (c .before .before .before .before .before .before .before .before .before .before .before .before .before .before .pre .0) g (c .before .before .before .before .before .before .before .if3 .taken) _ told (rw (c .enum-told2 .given .1) at (c .before .before .before .before .add-item .ensures .1 .0)))
 
 enum-known-row-2 : tie.Need-enum-known-row-2 Inv-loop μ-loop
 enum-known-row-2 c = search needs
 
-add-k : tie.Need-add-k Inv-loop μ-loop
-add-k c = omega (arith, c .before .before .before .before .before .before .before .before .before .before .before .before .before .before .pre .0 .few, c .before .before .before .before .before .before .before .before .if3 .taken)
+slice-aggregate-due-item-2 : tie.Need-slice-aggregate-due-item-2 Inv-loop μ-loop
+slice-aggregate-due-item-2 c = search needs
+
+add-due-item : tie.Need-add-due-item Inv-loop μ-loop
+add-due-item c = omega (arith, c .before .before .before .before .before .before .before .before .before .before .before .before .before .before .before .before .pre .0 .few, c .before .before .before .before .before .before .before .before .before .if3 .taken)
+
+due-item-requires-2 : tie.Need-due-item-requires-2 Inv-loop μ-loop
+due-item-requires-2 c κs = (c .before .before .before .before .before .before .before .before .before .before .before .before .before .lead-letters .ensures .all, omega (arith, c .before .before .before .before .before .before .before .before .before .if3 .taken, c .before .before .before .before .before .before .before .before .before .before .before .before .before .before .before .before .pre .0 .few))
 
 loop-less-3 : tie.Need-loop-less-3 Inv-loop μ-loop
-loop-less-3 c = rw (c .before .before .before .before .before .before .before .before .before .if1 .left) (omega (arith, c .before .before .before .before .before .before .before .before .before .before .before .before .before .before .pre .0 .few, c .before .before .before .before .before .before .before .before .if3 .taken))
+loop-less-3 c = rw (c .before .before .before .before .before .before .before .before .before .before .before .if1 .left) (omega (arith, c .due-item2 .ensures [] .on, c .before .before .before .before .before .before .before .before .before .before .if3 .taken, c .before .before .before .before .before .before .before .before .before .before .before .before .before .before .before .before .before .pre .0 .few))
 
 loop-again-3 : tie.Need-loop-again-3 Inv-loop μ-loop
 loop-again-3 c =
-    let g = inside _ _ _ _ _ _ _ _ (c .before .before .before .before .before .before .before .before .before .if1 .left) (c .before .before .before .before .before .before .before .before .before .before .loop .inv) in
-    let told = sym (c .before .before .before .before .before .add-item .ensures .0) ∙ ap (stepTold _) (c .before .row2 .given .1) in
-    still-inside _ _ _ _ _ _ _ _ (c .before .before .before .before .before .before .before .before .before .if1 .left) (item-behind _ _ _ _ _ _ (c .before .before .before .before .before .before .before .before .before .before .before .before .before .before .pre .1) (c .before .before .before .before .before .before .before .before .before .before .before .before .before .before .pre .0) g (c .before .before .before .before .before .before .before .before .if3 .taken) _ _ _ told (rw (c .before .row2 .given .1) at (c .before .before .before .before .before .add-item .ensures .1 .0)) (rw (c .before .row2 .given .1) at (c .before .before .before .before .before .add-item .ensures .1 .1)))
+    let g = inside _ _ _ _ _ _ _ _ (c .before .before .before .before .before .before .before .before .before .before .before .if1 .left) (c .before .before .before .before .before .before .before .before .before .before .before .before .loop .inv) in
+    let told = sym (c .before .before .before .before .before .before .before .add-item .ensures .0) ∙ ap (stepTold _) (c .before .before .before .row2 .given .1) in
+    let o = item-behind _ _ _ _ _ _ (c .before .before .before .before .before .before .before .before .before .before .before .before .before .before .before .before .before .pre .1) (c .before .before .before .before .before .before .before .before .before .before .before .before .before .before .before .before .before .pre .0) g (c .before .before .before .before .before .before .before .before .before .before .if3 .taken) _ _ _ told (rw (c .before .before .before .row2 .given .1) at (c .before .before .before .before .before .before .before .add-item .ensures .1 .0)) (rw (c .before .before .before .row2 .given .1) at (c .before .before .before .before .before .before .before .add-item .ensures .1 .1)) in
+    still-inside _ _ _ _ _ _ _ _ (c .before .before .before .before .before .before .before .before .before .before .before .if1 .left) (skips _ _ _ _ _ _ (c .before .before .before .before .before .before .before .before .before .before .before .before .before .before .before .before .before .pre .1) (c .before .before .before .before .before .before .before .before .before .before .before .before .before .before .before .before .before .pre .0) o (c .before .before .before .before .before .before .before .before .before .before .before .before .before .before .lead-letters .ensures) _ (c .due-item2 .ensures _))
 
 enum-known-r-2 : tie.Need-enum-known-r-2 Inv-loop μ-loop
 enum-known-r-2 c = search needs
@@ -124,7 +142,7 @@ returns-4 : tie.Need-returns-4 Inv-loop μ-loop
 returns-4 c =
     let g = inside _ _ _ _ _ _ _ _ (c .before .before .before .before .before .before .before .before .before .if1 .left) (c .before .before .before .before .before .before .before .before .before .before .loop .inv) in
     let told = sym (c .before .before .before .before .before .add-item .ensures .0) ∙ ap (stepTold _) (c .before .r2 .given .1) in
-    says-refused _ _ _ _ _ _ _ _ _ (item-refused _ _ _ _ _ _ (c .before .before .before .before .before .before .before .before .before .before .before .before .before .before .pre .1) (c .before .before .before .before .before .before .before .before .before .before .before .before .before .before .pre .0) g (c .before .before .before .before .before .before .before .before .if3 .taken) _ _ told)
+    says-refused _ _ _ _ _ _ _ _ _ (item-refused _ _ _ _ _ _ (c .before .before .before .before .before .before .before .before .before .before .before .before .before .before .before .pre .1) (c .before .before .before .before .before .before .before .before .before .before .before .before .before .before .before .pre .0) g (c .before .before .before .before .before .before .before .before .if3 .taken) _ _ told)
 
 find-end-requires : tie.Need-find-end-requires Inv-loop μ-loop
 find-end-requires c κs = search needs
@@ -133,12 +151,12 @@ enum-known-lf : tie.Need-enum-known-lf Inv-loop μ-loop
 enum-known-lf c = search needs
 
 put-requires : tie.Need-put-requires Inv-loop μ-loop
-put-requires c κs = omega (arith, line-fits _ _ _ _ _ _ (c .before .before .before .before .before .before .before .before .before .before .before .pre .1) (c .before .before .before .before .before .before .before .before .before .before .before .pre .0) (inside _ _ _ _ _ _ _ _ (c .before .before .before .before .before .before .if1 .left) (c .before .before .before .before .before .before .before .loop .inv)))
+put-requires c κs = omega (arith, line-fits _ _ _ _ _ _ (c .before .before .before .before .before .before .before .before .before .before .before .before .pre .1) (c .before .before .before .before .before .before .before .before .before .before .before .before .pre .0) (inside _ _ _ _ _ _ _ _ (c .before .before .before .before .before .before .if1 .left) (c .before .before .before .before .before .before .before .loop .inv)))
 
 add-next : tie.Need-add-next Inv-loop μ-loop
 add-next c =
     let g = inside _ _ _ _ _ _ _ _ (c .before .before .before .before .before .before .before .before .before .if1 .left) (c .before .before .before .before .before .before .before .before .before .before .loop .inv) in
-    omega (arith, lf-within _ _ _ _ _ _ (c .before .before .before .before .before .before .before .before .before .before .before .before .before .before .pre .1) (c .before .before .before .before .before .before .before .before .before .before .before .before .before .before .pre .0) g (c .before .before .before .before .before .before .before .before .if3 .left) _ _ (sym (c .before .before .before .before .before .before .before .find-end .ensures) ∙ ap (foundTold _) (c .before .before .before .before .before .lf .given .1)))
+    omega (arith, lf-within _ _ _ _ _ _ (c .before .before .before .before .before .before .before .before .before .before .before .before .before .before .before .pre .1) (c .before .before .before .before .before .before .before .before .before .before .before .before .before .before .before .pre .0) g (c .before .before .before .before .before .before .before .before .if3 .left) _ _ (sym (c .before .before .before .before .before .before .before .find-end .ensures) ∙ ap (foundTold _) (c .before .before .before .before .before .lf .given .1)))
 
 add-blocks : tie.Need-add-blocks Inv-loop μ-loop
 add-blocks c = omega (arith, inside _ _ _ _ _ _ _ _ (c .before .before .before .before .before .before .before .before .before .if1 .left) (c .before .before .before .before .before .before .before .before .before .before .loop .inv) .less)
@@ -153,7 +171,7 @@ loop-again-4 : tie.Need-loop-again-4 Inv-loop μ-loop
 loop-again-4 c =
     let g = inside _ _ _ _ _ _ _ _ (c .before .before .before .before .before .before .before .before .before .before .if1 .left) (c .before .before .before .before .before .before .before .before .before .before .before .loop .inv) in
     rw (fetched _ _ _ (c .next-kept2 .ensures))
-    (closes _ _ _ _ _ _ (c .before .before .before .before .before .before .before .before .before .before .before .before .before .before .before .pre .1) (c .before .before .before .before .before .before .before .before .before .before .before .before .before .before .before .pre .0) g (c .before .before .before .before .before .before .before .before .before .if3 .left) _ _ (sym (c .before .before .before .before .before .before .before .before .find-end .ensures) ∙ ap (foundTold _) (c .before .before .before .before .before .before .lf .given .1)) _ _ (c .before .before .before .put .ensures))
+    (closes _ _ _ _ _ _ (c .before .before .before .before .before .before .before .before .before .before .before .before .before .before .before .before .pre .1) (c .before .before .before .before .before .before .before .before .before .before .before .before .before .before .before .before .pre .0) g (c .before .before .before .before .before .before .before .before .before .if3 .left) _ _ (sym (c .before .before .before .before .before .before .before .before .find-end .ensures) ∙ ap (foundTold _) (c .before .before .before .before .before .before .lf .given .1)) _ _ (c .before .before .before .put .ensures))
 
 enum-known-r-3 : tie.Need-enum-known-r-3 Inv-loop μ-loop
 enum-known-r-3 c = search needs
@@ -164,7 +182,7 @@ same-length-5 c = as-long _ _ _ _ _ _ _ (inside _ _ _ _ _ _ _ _ (c .before .befo
 returns-5 : tie.Need-returns-5 Inv-loop μ-loop
 returns-5 c =
     let g = inside _ _ _ _ _ _ _ _ (c .before .before .before .before .before .if1 .left) (c .before .before .before .before .before .before .loop .inv) in
-    says-refused _ _ _ _ _ _ _ _ _ (end-refused _ _ _ _ _ _ (c .before .before .before .before .before .before .before .before .before .before .pre .1) (c .before .before .before .before .before .before .before .before .before .before .pre .0) g (c .before .before .before .before .if3 .left) _ _ (sym (c .before .before .before .find-end .ensures) ∙ ap (foundTold _) (c .before .r3 .given .1)))
+    says-refused _ _ _ _ _ _ _ _ _ (end-refused _ _ _ _ _ _ (c .before .before .before .before .before .before .before .before .before .before .before .pre .1) (c .before .before .before .before .before .before .before .before .before .before .before .pre .0) g (c .before .before .before .before .if3 .left) _ _ (sym (c .before .before .before .find-end .ensures) ∙ ap (foundTold _) (c .before .r3 .given .1)))
 
 pub fill-page-spec : {M : Type 1} → statement M
 fill-page-spec =
@@ -172,6 +190,7 @@ fill-page-spec =
     (tie.spec
     Inv-loop
     μ-loop
+    lead-letters-requires
     next-kept-requires
     loop-holds
     same-length
@@ -181,6 +200,8 @@ fill-page-spec =
     same-length-2
     returns-2
     enum-known-row
+    slice-aggregate-due-item
+    due-item-requires
     loop-less
     loop-again
     enum-known-r
@@ -193,7 +214,9 @@ fill-page-spec =
     loop-less-2
     loop-again-2
     enum-known-row-2
-    add-k
+    slice-aggregate-due-item-2
+    add-due-item
+    due-item-requires-2
     loop-less-3
     loop-again-3
     enum-known-r-2
