@@ -2,81 +2,39 @@
 use mathlib.Core.Path.{_≡_, refl, sym, ap, _∙_}
 use mathlib.Core.List.{List, [], _∷_, _++_}
 use Prim.Native.Nat.{ℕ, zero, suc, _+_, _/_, _≤_}
-use native.Mathlib.Nat.{le-refl, le-div-iff-mul-le}
+use native.Mathlib.Nat.{le-div-iff-mul-le}
 use native.Mathlib.Omega.{arith}
 use lib.ListN.{length, take, drop, length-take, take-append-drop}
 use borrow.Author.Tests.{le-leb}
 use Rattle.rows.specs.Answer.{Answer, taken, refused, valueOr, _>>=_}
-use Rattle.rows.specs.Stages.{judged}
-use Rattle.rows.specs.Kept.{KeptRow, keptAt, kept, firstOf}
-use Rattle.rows.proofs.KeptRows.{next-row}
+use Rattle.rows.specs.Kept.{KeptRow, keptAt, kept}
 use Rattle.shorthand.specs.declared.Format.{Format}
-use Rattle.reading.specs.Figures.{Behind, taking, behind}
+use Rattle.reading.specs.Figures.{Behind, taking}
 use Rattle.reading.specs.Parse.{BlockRead, Entry, entry, blockAt, blocksAt, headAt}
 use Rattle.reading.specs.Answers.{read}
-use Rattle.reading.proofs.BlockWalk.{advances, program-blocks, read-clean, read-refused}
-use Rattle.reading.proofs.ReadBlocks.{Last, last, before}
-use Rattle.reading.proofs.Sound.{block-rows, head-rows}
+use Rattle.reading.proofs.BlockWalk.{advances}
+use Rattle.reading.proofs.OwnRows.{Left, block-behind, none-left, one-left, behind-head}
 use Rattle.lines.specs.Listing.{blockLines}
 use Rattle.lines.specs.Pages.{lineRoom, endOf, pageBlocks, Paged, pageOf, pageIn}
 use Rattle.lines.proofs.Paging.{rising-at, lines-more}
 
--- ---- the rows behind a block
-
--- behind the last of some kept rows stand those from the next place on
-rows-behind : (t : List ℕ) (i p : ℕ) {s : List KeptRow} (rest : List KeptRow) → Last p s → keptAt t i ≡ s ++ rest → rest ≡ keptAt t (p + 1)
-rows-behind t i p rest (last {r = r} e) q =
-    let s = next-row t i (r .char) (r .place) (r .place + 1) (ap firstOf q) in
-    ap behind (sym q ∙ s .rows) ∙ rw e
-rows-behind t i p rest (before {r = r} {rs = s} h) q =
-    let n = next-row t i (r .char) (r .place) (r .place + 1) (ap firstOf q) in
-    rows-behind t (r .place + 1) p rest h (sym (ap behind (sym q ∙ n .rows)))
-
 module _ (f : Format) (t : List ℕ) where
-  block-behind : (i : ℕ) (b : Behind BlockRead) → blockAt (length t) f (keptAt t i) ≡ taken b → b .rest ≡ keptAt t (b .value .lf + 1)
-  block-behind i b e =
-      let r = block-rows f (length t) (keptAt t i) b e in
-      rows-behind t i (b .value .lf) (b .rest) (r .stands .1) (r .split)
-
-  -- ---- what is left of the blocks
-
-  -- from a row on these blocks stand to the end of the tape
-  pub record Left (from : ℕ) (es : List Entry) : Type 0 where
-    pub fuel : ℕ
-    pub enough : length (keptAt t from) ≤ fuel
-    pub come : blocksAt fuel (length t) f from (keptAt t from) ≡ taken es
-
-  -- the first m of them, and those behind
+  -- the first m of the blocks that are left, and those behind
   abbrev Turned : ℕ → ℕ → List Entry → Type 0
-  Turned m from es = (blocksAt m (length t) f from (keptAt t from) ≡ taken (take m es)) × Left (endOf from (take m es)) (drop m es)
-
-  module _ (k from : ℕ) where
-    none-left : keptAt t from ≡ [] → blocksAt k (length t) f from (keptAt t from) ≡ taken []
-    unfolding blocksAt
-    none-left q = by k
-      where
-        by : (k : ℕ) → blocksAt k (length t) f from (keptAt t from) ≡ taken []
-        by zero = refl
-        by (suc k) = rw q
-
-    one-left : (r : KeptRow) (u : List KeptRow) → keptAt t from ≡ r ∷ u
-        → blocksAt (suc k) (length t) f from (keptAt t from)
-        ≡ (blockAt (length t) f (keptAt t from) >>= λ b. blocksAt k (length t) f (b .value .lf + 1) (b .rest) >>= λ es. taken (entry from (b .value) ∷ es))
-    unfolding blocksAt
-    one-left r u q = rw q
+  Turned m from es = (blocksAt m (length t) f from (keptAt t from) ≡ taken (take m es)) × Left f t (endOf from (take m es)) (drop m es)
 
   -- one block more than m
-  module _ (m : ℕ) (turn : (from : ℕ) (es : List Entry) → Left from es → Turned m from es) (from : ℕ) (es : List Entry) where
+  module _ (m : ℕ) (turn : (from : ℕ) (es : List Entry) → Left f t from es → Turned m from es) (from : ℕ) (es : List Entry) where
     module _ (k : ℕ) (l : length (keptAt t from) ≤ suc k) (r : KeptRow) (u : List KeptRow) (q : keptAt t from ≡ r ∷ u) where
       by-next : (b : Behind BlockRead) → blockAt (length t) f (keptAt t from) ≡ taken b
           → (a : Answer (List Entry)) → blocksAt k (length t) f (b .value .lf + 1) (b .rest) ≡ a → (a >>= λ x. taken (entry from (b .value) ∷ x)) ≡ taken es → Turned (suc m) from es
       by-next b i (refused x y) j e = let z : _≡_ {A = ℕ} 0 1 = cc in absurd (omega arith)
       by-next b i (taken xs) j e =
-          let same = block-behind from b i in
+          let same = block-behind f t from b i in
           let all : es ≡ entry from (b .value) ∷ xs = ap (valueOr []) (sym e) in
           let less = advances f (length t) from (keptAt t from) b (rising-at t from) i .fewer in
           let h = turn (b .value .lf + 1) xs (record { fuel = k; enough = rw (← same) (omega arith); come = rw same at j }) in
-          rw all (one-left m from r u q ∙ rw (i, same, h .0), h .1)
+          rw all (one-left f t m from r u q ∙ rw (i, same, h .0), h .1)
 
       by-block : (a : Answer (Behind BlockRead)) → blockAt (length t) f (keptAt t from) ≡ a
           → (a >>= λ b. blocksAt k (length t) f (b .value .lf + 1) (b .rest) >>= λ x. taken (entry from (b .value) ∷ x)) ≡ taken es → Turned (suc m) from es
@@ -85,34 +43,22 @@ module _ (f : Format) (t : List ℕ) where
 
     by-rows : (rs : List KeptRow) → keptAt t from ≡ rs → (k : ℕ) → length (keptAt t from) ≤ k → blocksAt k (length t) f from (keptAt t from) ≡ taken es → Turned (suc m) from es
     by-rows [] q k l e =
-        let none : es ≡ [] = ap (valueOr []) (sym e ∙ none-left k from q) in
-        rw none (none-left (suc m) from q, record { fuel = k; enough = l; come = none-left k from q })
+        let none : es ≡ [] = ap (valueOr []) (sym e ∙ none-left f t k from q) in
+        rw none (none-left f t (suc m) from q, record { fuel = k; enough = l; come = none-left f t k from q })
     by-rows (r ∷ u) q zero l e = let some = ap length q in absurd (omega arith)
-    by-rows (r ∷ u) q (suc k) l e = by-block k l r u q (blockAt (length t) f (keptAt t from)) refl (sym (one-left k from r u q) ∙ e)
+    by-rows (r ∷ u) q (suc k) l e = by-block k l r u q (blockAt (length t) f (keptAt t from)) refl (sym (one-left f t k from r u q) ∙ e)
 
-  turned : (m from : ℕ) (es : List Entry) → Left from es → Turned m from es
+  turned : (m from : ℕ) (es : List Entry) → Left f t from es → Turned m from es
   unfolding blocksAt
   turned zero from es g = (refl, g)
   turned (suc m) from es g = by-rows m (λ i xs h. turned m i xs h) from es (keptAt t from) refl (g .fuel) (g .enough) (g .come)
-
-  -- all blocks of an accepted tape stand behind its head
-  pub behind-head : (es : List Entry) → read f t ≡ taken es → (lf : ℕ) (rest : List KeptRow) → headAt (length t) (kept t) ≡ taking lf rest → Left (lf + 1) es
-  behind-head es e lf rest h =
-      let r = head-rows (length t) (kept t) _ h in
-      let same = rows-behind t 0 lf rest (r .stands .to) (r .split) in
-      let blocks = sym (program-blocks (length t) f (kept t) lf rest h) ∙ sym (read-clean f t (clean (judged t) refl)) ∙ e in
-      record { fuel = length (keptAt t (lf + 1)); enough = le-refl _; come = rw same at blocks }
-    where
-      clean : (a : Answer (Unit {0})) → judged t ≡ a → judged t ≡ taken tt
-      clean (taken x) q = q
-      clean (refused n p) q = let bad = sym (read-refused f t n p q) ∙ e in let z : _≡_ {A = ℕ} 0 1 = cc in absurd (omega arith)
 
   -- ---- pages
 
   module _ (size : ℕ) (room : lineRoom f ≤ size) where
     -- no page of what is left is refused, and the blocks behind it are still left
-    pub page-of : (from : ℕ) (es : List Entry) → Left from es
-        → (pageIn f from (pageBlocks f size t from) ≡ taken (pageOf f from (take (size / lineRoom f) es))) × Left (endOf from (take (size / lineRoom f) es)) (drop (size / lineRoom f) es)
+    pub page-of : (from : ℕ) (es : List Entry) → Left f t from es
+        → (pageIn f from (pageBlocks f size t from) ≡ taken (pageOf f from (take (size / lineRoom f) es))) × Left f t (endOf from (take (size / lineRoom f) es)) (drop (size / lineRoom f) es)
     page-of from es g = let h = turned (size / lineRoom f) from es g in (rw (le-leb (lineRoom f) size room, h .0), h .1)
 
     -- pages one behind another, from a row on, until one lists no block
@@ -124,7 +70,7 @@ module _ (f : Format) (t : List ℕ) where
     some : 1 ≤ size / lineRoom f
     some = le-div-iff-mul-le {k = lineRoom f} (omega arith) .1 (omega (arith, room))
 
-    pub pages-are : {from : ℕ} {text : List ℕ} → Pages from text → (es : List Entry) → Left from es → text ≡ blockLines (f .sequence) es
+    pub pages-are : {from : ℕ} {text : List ℕ} → Pages from text → (es : List Entry) → Left f t from es → text ≡ blockLines (f .sequence) es
     pages-are {from} (end p e z) es g =
         let same : p ≡ pageOf f from (take (size / lineRoom f) es) = ap (valueOr (pageOf f from [])) (sym e ∙ page-of from es g .0) in
         let none : length (take (size / lineRoom f) es) ≡ 0 = sym (ap (λ p. p .blocks) same) ∙ z in
@@ -143,4 +89,4 @@ module _ (f : Format) (t : List ℕ) where
     -- from the head on
     pub listed-pages : (es : List Entry) → read f t ≡ taken es → (lf : ℕ) (rest : List KeptRow) → headAt (length t) (kept t) ≡ taking lf rest
         → {text : List ℕ} → Pages (lf + 1) text → text ≡ blockLines (f .sequence) es
-    listed-pages es e lf rest h p = pages-are p es (behind-head es e lf rest h)
+    listed-pages es e lf rest h p = pages-are p es (behind-head f t es e lf rest h)

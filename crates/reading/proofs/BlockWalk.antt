@@ -16,11 +16,10 @@ use Rattle.rows.specs.Stages.{judged}
 use Rattle.rows.specs.Kept.{KeptRow, kept}
 use Rattle.shorthand.specs.declared.Format.{Format}
 use Rattle.reading.specs.declared.Block.{Block}
-use Rattle.reading.specs.Record.{emptyBlock}
 use Rattle.reading.specs.Figures.{Behind, taking}
 use Rattle.reading.specs.Parse.{BlockRead, Entry, entry, blockAt, headAt, blocksAt}
 use Rattle.reading.specs.Answers.{nowhere, programAt, read}
-use Rattle.reading.specs.Front.{lfOf, blockOnly, sizeOf, Rising}
+use Rattle.reading.specs.Front.{lfOf, sizeOf, Rising}
 use Rattle.reading.proofs.ReadBlocks.{last-some}
 use Rattle.reading.proofs.Sound.{block-rows, head-rows}
 use Rattle.reading.proofs.Places.{kept-rising, last-rising}
@@ -136,10 +135,6 @@ module _ (n : ℕ) (f : Format) (first : ℕ) (start : List KeptRow) where
               let k : blockAt n f rs ≡ taking (record { block = b .value .block; lf = lf }) rest = i ∙ rw (← same, ← left) in
               let m = advances f n from rs _ (g .rising) k in
               record { block = b .value .block; took = k; passed = pass-one _ k; done = refl; after = m .from; within = m .within; fewer = m .fewer }
-
-      pub block-now : (lf : ℕ) (rest : List KeptRow) (o : Onward lf rest) (b : Bool) (held : Block)
-          → cond b (valueOr emptyBlock (blockOnly (blockAt n f rs))) held ≡ cond b (o .block) held
-      block-now lf rest o b held = ap (λ a. cond b (valueOr emptyBlock (blockOnly a)) held) (o .took)
 
 -- ---- the block that is asked for
 

@@ -31,10 +31,6 @@ prepend-word : (ws : List Word) (w : Word) (a : Answer (Behind (List Word))) →
 prepend-word ws w (taken x) = rw append-assoc
 prepend-word ws w (refused n p) = refl
 
-rest-prepend : (ws : List Word) (a : Answer (Behind (List Word))) → restOf (prepend ws a) ≡ restOf a
-rest-prepend ws (taken x) = refl
-rest-prepend ws (refused n p) = refl
-
 -- one word more in the block
 pub stored-word : (skip alignment : Bool) (n : ℕ) (ws : List Word) (w : Word) (b r : Block) → b ≡ blockOf skip alignment n ws → length ws < 22
     → r ≡ record { skip = b .skip; alignment = b .alignment; sequence = b .sequence; count = b .count + 1; words = set (b .words) (b .count) w }

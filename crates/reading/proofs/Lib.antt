@@ -32,4 +32,5 @@ pub mod Gathering
 pub mod Started
 pub mod BlockWalk
 pub mod InBlock
+pub mod OwnRows
 pub mod Numbered

@@ -115,9 +115,6 @@ module _ (len : ℕ) (f : Format) where
     pub then-closes : lfOf (blockAt len f rs) ≡ (restOf words >>= ended len 14 10)
     then-closes = ap lfOf on ∙ closes words
 
-    pub then-lf : (u : List KeptRow) → restOf words ≡ taken u → lfOf (blockAt len f rs) ≡ ended len 14 10 u
-    then-lf u r = then-closes ∙ ap (λ a. a >>= ended len 14 10) r
-
     pub then-block : (u : List KeptRow) (x : Behind ℕ) → restOf words ≡ taken u → ended len 14 10 u ≡ taken x
         → blockOnly (blockAt len f rs) ≡ taken (blockOf (s .value .skip) (s .value .alignment) (s .value .sequence) (gatheredIn words))
     then-block u x r q = ap blockOnly (then-end u r) ∙ rw q

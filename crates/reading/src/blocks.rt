@@ -1,4 +1,4 @@
-// The head, and a block with its end: passed by, or gathered.
+// The head, the start of a block, and a block gathered into its record.
 ghost use mathlib.Core.Path.{_≡_};
 ghost use mathlib.Core.List.{List};
 ghost use Prim.Native.Nat.{ℕ, _≤_};
@@ -8,9 +8,9 @@ ghost use Rattle.shorthand.specs.Facts.{Facts};
 ghost use Rattle.reading.specs.Record.{emptyBlock};
 ghost use Rattle.reading.specs.Figures.{fronts};
 ghost use Rattle.reading.specs.Parse.{headAt, blockAt};
-ghost use Rattle.reading.specs.Front.{rowsAt, endTold, startTold, digitsAt, numberAt, pastSlash, startAt, openedAt, passedTold, lfOf, blockOnly};
+ghost use Rattle.reading.specs.Front.{rowsAt, endTold, startTold, digitsAt, numberAt, pastSlash, startAt, openedAt, passedTold, blockOnly};
 use crate::Block;
-use crate::BlockGathered;
+use crate::EndFound;
 use crate::EndRead;
 use crate::Passed;
 use crate::Start;
@@ -18,12 +18,12 @@ use crate::StartRead;
 use crate::Value;
 use crate::Word;
 use crate::WordsRead;
+use crate::figures::find_end;
 use crate::figures::is_digit_next;
 use crate::figures::read_digits;
 use crate::figures::read_end;
 use crate::figures::refuse_front;
 use crate::words::gather_words;
-use crate::words::pass_words;
 use rows::Next;
 use rows::Refusal;
 use shorthand::Format;
@@ -162,23 +162,6 @@ pub(crate) fn open_block(tape: &[u8], digits: usize, front: Next) -> Passed
     }
 }
 
-// A block whose record nobody asked for: the place of its LF.
-pub(crate) fn pass_block(tape: &[u8], format: Format, front: Next) -> EndRead
-    requires { ⌜ Facts format ⌝ }
-    ensures { λ r. ⌜ endTold (now (tape .entry)) r ≡ lfOf (blockAt (length (now (tape .entry))) format (rowsAt (now (tape .entry)) front)) ⌝ }
-{
-    match read_start(tape, format.sequence as usize, front) {
-        StartRead::Is(s) => {
-            let next = s.front;
-            match pass_words(tape, format, next) {
-                WordsRead::Done(rest) => read_end(tape, rest, 14, 10),
-                WordsRead::Refused(r) => EndRead::Refused(r),
-            }
-        }
-        StartRead::Refused(r) => EndRead::Refused(r),
-    }
-}
-
 // What a refusal hands back.
 pub fn empty_block() -> Block
     ensures { λ r. ⌜ r ≡ emptyBlock ⌝ }
@@ -196,40 +179,23 @@ pub fn empty_block() -> Block
     }
 }
 
-fn refused_block(refusal: Refusal) -> BlockGathered
-    ensures { λ r. ⌜ (r .end ≡ EndRead.Refused refusal) × (r .block ≡ emptyBlock) ⌝ }
-{
-    BlockGathered {
-        end: EndRead::Refused(refusal),
-        block: empty_block(),
-    }
-}
-
-// A block gathered into its record, and the place of its LF.
-pub(crate) fn gather_block(tape: &[u8], format: Format, front: Next) -> BlockGathered
+// The record of the block that begins at a row; an empty one where none does.
+pub(crate) fn gather_block(tape: &[u8], format: Format, front: Next) -> Block
     requires { ⌜ Facts format ⌝ }
-    ensures end { λ r. ⌜ endTold (now (tape .entry)) (r .end) ≡ lfOf (blockAt (length (now (tape .entry))) format (rowsAt (now (tape .entry)) front)) ⌝ }
-    ensures block { λ r. ⌜ r .block ≡ valueOr emptyBlock (blockOnly (blockAt (length (now (tape .entry))) format (rowsAt (now (tape .entry)) front))) ⌝ }
+    ensures { λ r. ⌜ r ≡ valueOr emptyBlock (blockOnly (blockAt (length (now (tape .entry))) format (rowsAt (now (tape .entry)) front))) ⌝ }
 {
-    match read_start(tape, format.sequence as usize, front) {
-        StartRead::Is(s) => {
-            let next = s.front;
-            let gathered = gather_words(tape, format, next, s.skip, s.alignment, s.sequence);
-            let words = gathered.words;
-            match words {
-                WordsRead::Done(rest) => match read_end(tape, rest, 14, 10) {
-                    EndRead::At(lf, after) => {
-                        let block = gathered.block;
-                        BlockGathered {
-                            end: EndRead::At(lf, after),
-                            block,
-                        }
-                    }
-                    EndRead::Refused(r) => refused_block(r),
-                },
-                WordsRead::Refused(r) => refused_block(r),
-            }
-        }
-        StartRead::Refused(r) => refused_block(r),
+    let StartRead::Is(s) = read_start(tape, format.sequence as usize, front) else {
+        return empty_block();
+    };
+    let next = s.front;
+    let gathered = gather_words(tape, format, next, s.skip, s.alignment, s.sequence);
+    let words = gathered.words;
+    let block = gathered.block;
+    let WordsRead::Done(rest) = words else {
+        return empty_block();
+    };
+    match find_end(tape, rest, 14, 10) {
+        EndFound::At(_, _) => block,
+        EndFound::Refused(_) => empty_block(),
     }
 }

@@ -3,9 +3,10 @@
 ghost use mathlib.Core.Path.{_≡_};
 ghost use mathlib.Core.List.{[]};
 ghost use Rattle.rows.specs.Answer.{numberOf, placeOf, told, void, valueOr};
+ghost use Rattle.shorthand.specs.Facts.{Facts};
 ghost use Rattle.reading.specs.Record.{emptyBlock};
-ghost use Rattle.reading.specs.Answers.{nowhere, entryNumbered, counted, blockNumbered, rowsNumbered};
-ghost use Rattle.reading.specs.Front.{countTold, partOf, hasBlock};
+ghost use Rattle.reading.specs.Answers.{nowhere, read, entryNumbered, counted, blockNumbered, rowsNumbered};
+ghost use Rattle.reading.specs.Front.{countTold, sizeOf, partOf, partIn, blockIn, hasBlock};
 
 pub mod blocks;
 pub mod datum;
@@ -15,10 +16,11 @@ mod walk;
 pub mod words;
 
 use blocks::empty_block;
+use blocks::gather_block;
 use rows::Checked;
 use rows::Next;
 use rows::Refusal;
-use walk::fetch_tape;
+use shorthand::Format;
 use walk::survey_tape;
 
 // What a word says: a plain number, a dimension in the last decimal place, or a speed in ten-millionths.
@@ -130,12 +132,6 @@ pub enum StartRead {
     Refused(Refusal),
 }
 
-// A block and the place of its LF.
-pub struct BlockGathered {
-    pub end: EndRead,
-    pub block: Block,
-}
-
 // The number of blocks.
 pub enum Counted {
     Blocks(usize),
@@ -152,12 +148,6 @@ pub struct Part {
 pub struct Survey {
     pub count: Counted,
     pub part: Part,
-}
-
-// The number of blocks, and the record of one of them.
-pub struct Fetch {
-    pub count: Counted,
-    pub block: Block,
 }
 
 // Block n, or why there is none.
@@ -208,6 +198,42 @@ pub fn count_blocks(edition: u32, text: &[u8], tape: &[u8]) -> Counted
     }
 }
 
+// Where the rows of block n stand, under a Format.
+fn find_under(tape: &[u8], format: Format, n: usize) -> PartAnswer
+    requires { ⌜ Facts format ⌝ }
+    ensures outcome { λ r. ⌜ told (r .outcome) ≡ hasBlock n (sizeOf (read format (now (tape .entry)))) ⌝ }
+    ensures part { λ r. ⌜ r .part ≡ partIn n (read format (now (tape .entry))) ⌝ }
+{
+    let survey = survey_tape(tape, format, n);
+    let part = survey.part;
+    let count = survey.count;
+    PartAnswer {
+        outcome: within(count, n),
+        part,
+    }
+}
+
+// Block n under a Format: found by the walk over all blocks, and then gathered from its own first row.
+fn read_under(tape: &[u8], format: Format, n: usize) -> BlockAnswer
+    requires { ⌜ Facts format ⌝ }
+    ensures outcome { λ r. ⌜ told (r .outcome) ≡ hasBlock n (sizeOf (read format (now (tape .entry)))) ⌝ }
+    ensures block { λ r. ⌜ r .block ≡ blockIn n (read format (now (tape .entry))) ⌝ }
+{
+    let found = find_under(tape, format, n);
+    let outcome = found.outcome;
+    let part = found.part;
+    if let Checked::Refused(r) = outcome {
+        return BlockAnswer {
+            outcome: Checked::Refused(r),
+            block: empty_block(),
+        };
+    }
+    BlockAnswer {
+        outcome: Checked::Clean,
+        block: gather_block(tape, format, rows::next_kept(tape, part.from)),
+    }
+}
+
 // Block n of a tape, from 0.
 pub fn read_block(edition: u32, text: &[u8], tape: &[u8], n: usize) -> BlockAnswer
     ensures outcome { λ r. ⌜ told (r .outcome) ≡ void (blockNumbered edition (now (text .entry)) (now (tape .entry)) n) ⌝ }
@@ -216,18 +242,12 @@ pub fn read_block(edition: u32, text: &[u8], tape: &[u8], n: usize) -> BlockAnsw
     let parsed = shorthand::parse(edition, text);
     let format = parsed.format;
     let outcome = parsed.outcome;
-    if let Checked::Refused(r) = outcome {
-        return BlockAnswer {
+    match outcome {
+        Checked::Clean => read_under(tape, format, n),
+        Checked::Refused(r) => BlockAnswer {
             outcome: Checked::Refused(r),
             block: empty_block(),
-        };
-    }
-    let fetch = fetch_tape(tape, format, n);
-    let block = fetch.block;
-    let count = fetch.count;
-    BlockAnswer {
-        outcome: within(count, n),
-        block,
+        },
     }
 }
 
@@ -239,18 +259,12 @@ fn find_part(edition: u32, text: &[u8], tape: &[u8], n: usize) -> PartAnswer
     let parsed = shorthand::parse(edition, text);
     let format = parsed.format;
     let outcome = parsed.outcome;
-    if let Checked::Refused(r) = outcome {
-        return PartAnswer {
+    match outcome {
+        Checked::Clean => find_under(tape, format, n),
+        Checked::Refused(r) => PartAnswer {
             outcome: Checked::Refused(r),
             part: Part { from: 0, to: 0 },
-        };
-    }
-    let survey = survey_tape(tape, format, n);
-    let part = survey.part;
-    let count = survey.count;
-    PartAnswer {
-        outcome: within(count, n),
-        part,
+        },
     }
 }
 

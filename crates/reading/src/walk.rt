@@ -1,27 +1,19 @@
-// The walk over all blocks of a tape: how many there are, and the rows or the record of one of them.
+// The walk over all blocks of a tape: how many there are, and where the rows of one of them stand.
 ghost use mathlib.Core.Path.{_≡_};
 ghost use mathlib.Core.Bool.{cond};
 ghost use lib.ListN.{length};
-ghost use Rattle.rows.specs.Answer.{valueOr};
 ghost use Rattle.rows.specs.Kept.{kept};
 ghost use Rattle.shorthand.specs.Facts.{Facts};
-ghost use Rattle.reading.specs.Record.{emptyBlock};
-ghost use Rattle.reading.specs.Parse.{blockAt, blocksAt};
+ghost use Rattle.reading.specs.Parse.{blocksAt};
 ghost use Rattle.reading.specs.Answers.{programAt, read};
-ghost use Rattle.reading.specs.Front.{rowsAt, endTold, endRefusal, lfOf, blockOnly, countTold, sizeOf, partIn, blockIn, Rising};
-use crate::Block;
-use crate::BlockGathered;
+ghost use Rattle.reading.specs.Front.{rowsAt, endRefusal, countTold, sizeOf, partIn, Rising};
 use crate::Counted;
 use crate::EndFound;
 use crate::EndRead;
-use crate::Fetch;
 use crate::Part;
 use crate::Passed;
 use crate::Survey;
-use crate::blocks::empty_block;
-use crate::blocks::gather_block;
 use crate::blocks::open_block;
-use crate::blocks::pass_block;
 use crate::blocks::read_head;
 use crate::figures::find_end;
 use crate::items::due_item;
@@ -119,60 +111,6 @@ fn survey_blocks(tape: &[u8], format: Format, n: usize, first: usize, start: Nex
     }
 }
 
-// A block, gathered where it is the one that is wanted.
-fn step_block(tape: &[u8], format: Format, front: Next, wanted: bool, held: Block) -> BlockGathered
-    requires { ⌜ Facts format ⌝ }
-    ensures end { λ r. ⌜ endTold (now (tape .entry)) (r .end) ≡ lfOf (blockAt (length (now (tape .entry))) format (rowsAt (now (tape .entry)) front)) ⌝ }
-    ensures block { λ r. ⌜ r .block ≡ cond wanted (valueOr emptyBlock (blockOnly (blockAt (length (now (tape .entry))) format (rowsAt (now (tape .entry)) front)))) held ⌝ }
-{
-    if wanted {
-        return gather_block(tape, format, front);
-    }
-    BlockGathered {
-        end: pass_block(tape, format, front),
-        block: held,
-    }
-}
-
-// All blocks from a row on: their number, and the record of block n.
-fn fetch_blocks(tape: &[u8], format: Format, n: usize, first: usize, start: Next) -> Fetch
-    requires { ⌜ Facts format ⌝ }
-    requires { ⌜ Rising (length (now tape)) first (rowsAt (now tape) start) ⌝ }
-    ensures count { λ r. ⌜ countTold (r .count) ≡ sizeOf (blocksAt (length (rowsAt (now (tape .entry)) start)) (length (now (tape .entry))) format first (rowsAt (now (tape .entry)) start)) ⌝ }
-    ensures block { λ r. ⌜ r .block ≡ blockIn n (blocksAt (length (rowsAt (now (tape .entry)) start)) (length (now (tape .entry))) format first (rowsAt (now (tape .entry)) start)) ⌝ }
-{
-    let none = empty_block();
-    let mut block = none;
-    let mut front = start;
-    let mut from = first;
-    let mut count: usize = 0;
-    loop {
-        let Next::Row {
-            character: _,
-            place: _,
-            after: _,
-        } = front
-        else {
-            return Fetch {
-                count: Counted::Blocks(count),
-                block,
-            };
-        };
-        let step = step_block(tape, format, front, count == n, block);
-        let end = step.end;
-        let EndRead::At(lf, next) = end else {
-            return Fetch {
-                count: Counted::Refused(end_refusal(end)),
-                block: none,
-            };
-        };
-        block = step.block;
-        from = lf + 1;
-        count += 1;
-        front = next;
-    }
-}
-
 // The fourth stage: the head, and then the blocks.
 fn survey_program(tape: &[u8], format: Format, n: usize) -> Survey
     requires { ⌜ Facts format ⌝ }
@@ -189,21 +127,6 @@ fn survey_program(tape: &[u8], format: Format, n: usize) -> Survey
     survey_blocks(tape, format, n, lf + 1, front)
 }
 
-fn fetch_program(tape: &[u8], format: Format, n: usize) -> Fetch
-    requires { ⌜ Facts format ⌝ }
-    ensures count { λ r. ⌜ countTold (r .count) ≡ sizeOf (programAt (length (now (tape .entry))) format (kept (now (tape .entry)))) ⌝ }
-    ensures block { λ r. ⌜ r .block ≡ blockIn n (programAt (length (now (tape .entry))) format (kept (now (tape .entry)))) ⌝ }
-{
-    let head = read_head(tape, rows::next_kept(tape, 0));
-    let EndRead::At(lf, front) = head else {
-        return Fetch {
-            count: Counted::Refused(end_refusal(head)),
-            block: empty_block(),
-        };
-    };
-    fetch_blocks(tape, format, n, lf + 1, front)
-}
-
 // All four stages under a Format: the number of blocks, and where the rows of block n stand.
 pub fn survey_tape(tape: &[u8], format: Format, n: usize) -> Survey
     requires { ⌜ Facts format ⌝ }
@@ -217,19 +140,4 @@ pub fn survey_tape(tape: &[u8], format: Format, n: usize) -> Survey
         };
     }
     survey_program(tape, format, n)
-}
-
-// The same with the record of block n.
-pub fn fetch_tape(tape: &[u8], format: Format, n: usize) -> Fetch
-    requires { ⌜ Facts format ⌝ }
-    ensures count { λ r. ⌜ countTold (r .count) ≡ sizeOf (read format (now (tape .entry))) ⌝ }
-    ensures block { λ r. ⌜ r .block ≡ blockIn n (read format (now (tape .entry))) ⌝ }
-{
-    if let Checked::Refused(r) = rows::check(tape) {
-        return Fetch {
-            count: Counted::Refused(r),
-            block: empty_block(),
-        };
-    }
-    fetch_program(tape, format, n)
 }

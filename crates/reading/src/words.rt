@@ -1,4 +1,4 @@
-// The words of a block, item by item, with tabs or without: passed by, or gathered into the block.
+// An item with tabs or without, passed by; and the words of a block, gathered into its record.
 ghost use mathlib.Core.Path.{_≡_};
 ghost use mathlib.Core.Bool.{cond};
 ghost use mathlib.Core.List.{List, []};
@@ -89,33 +89,6 @@ pub(crate) fn pass_item(tape: &[u8], dots: bool, item: Item, front: Next) -> Pas
             WordRead::Refused(r) => Passed::Refused(r),
         },
     }
-}
-
-// The words of a block, each read and none kept.
-pub(crate) fn pass_words(tape: &[u8], format: Format, start: Next) -> WordsRead
-    requires { ⌜ Facts format ⌝ }
-    ensures { λ r. ⌜ restTold (now (tape .entry)) r ≡ restOf (wordsAt (length (now (tape .entry))) (format .dots) (itemsOf format) (rowsAt (now (tape .entry)) start)) ⌝ }
-{
-    let dots = format.dots;
-    let count = format.count;
-    let mut front = start;
-    let mut k: usize = 0;
-    while k < count {
-        let item = format.items[k];
-        match pass_item(tape, dots, item, front) {
-            Passed::Nothing => {
-                return WordsRead::Done(front);
-            }
-            Passed::Behind(next) => {
-                front = next;
-            }
-            Passed::Refused(r) => {
-                return WordsRead::Refused(r);
-            }
-        }
-        k += 1;
-    }
-    WordsRead::Done(front)
 }
 
 // A block with no words yet.

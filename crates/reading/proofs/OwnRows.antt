@@ -1,0 +1,142 @@
+-- A block of an accepted tape reads the same from its own first row, whatever stands before it.
+use mathlib.Core.Path.{_≡_, refl, sym, ap, _∙_}
+use mathlib.Core.Bool.{Bool, true, false, cond}
+use mathlib.Core.List.{List, [], _∷_, _++_}
+use Prim.Native.Nat.{ℕ, zero, suc, _+_, _≤_, _<_}
+use native.Mathlib.Nat.{le-refl, le-of-suc-le-suc, not-suc-le-zero}
+use native.Mathlib.Omega.{arith}
+use lib.Dec.{ltb}
+use lib.ListN.{length, getD, List·getD-eq-default}
+use borrow.Author.Tests.{ltb-true, ltb-false}
+use Rattle.rows.specs.Answer.{Answer, taken, refused, valueOr, _>>=_}
+use Rattle.rows.specs.Stages.{judged}
+use Rattle.rows.specs.Kept.{KeptRow, keptAt, kept, firstOf}
+use Rattle.rows.proofs.KeptRows.{next-row}
+use Rattle.shorthand.specs.declared.Format.{Format}
+use Rattle.reading.specs.Figures.{Behind, taking, behind}
+use Rattle.reading.specs.Parse.{BlockRead, Entry, entry, blockAt, blocksAt, headAt}
+use Rattle.reading.specs.Answers.{nowhere, read}
+use Rattle.reading.specs.declared.Part.{Part}
+use Rattle.reading.specs.Record.{emptyBlock}
+use Rattle.reading.specs.Front.{blockOnly, sizeOf, partIn, blockIn, hasBlock}
+use Rattle.reading.proofs.BlockWalk.{program-blocks, program-refused, read-clean, read-refused}
+use Rattle.reading.proofs.ReadBlocks.{Last, last, before}
+use Rattle.reading.proofs.Sound.{block-rows, head-rows}
+
+-- ---- the rows behind a block
+
+-- behind the last of some kept rows stand those from the next place on
+rows-behind : (t : List ℕ) (i p : ℕ) {s : List KeptRow} (rest : List KeptRow) → Last p s → keptAt t i ≡ s ++ rest → rest ≡ keptAt t (p + 1)
+rows-behind t i p rest (last {r = r} e) q =
+    let s = next-row t i (r .char) (r .place) (r .place + 1) (ap firstOf q) in
+    ap behind (sym q ∙ s .rows) ∙ rw e
+rows-behind t i p rest (before {r = r} {rs = s} h) q =
+    let n = next-row t i (r .char) (r .place) (r .place + 1) (ap firstOf q) in
+    rows-behind t (r .place + 1) p rest h (sym (ap behind (sym q ∙ n .rows)))
+
+module _ (f : Format) (t : List ℕ) where
+  pub block-behind : (i : ℕ) (b : Behind BlockRead) → blockAt (length t) f (keptAt t i) ≡ taken b → b .rest ≡ keptAt t (b .value .lf + 1)
+  block-behind i b e =
+      let r = block-rows f (length t) (keptAt t i) b e in
+      rows-behind t i (b .value .lf) (b .rest) (r .stands .1) (r .split)
+
+  -- ---- what is left of the blocks
+
+  -- from a row on these blocks stand to the end of the tape
+  pub record Left (from : ℕ) (es : List Entry) : Type 0 where
+    pub fuel : ℕ
+    pub enough : length (keptAt t from) ≤ fuel
+    pub come : blocksAt fuel (length t) f from (keptAt t from) ≡ taken es
+
+  module _ (k from : ℕ) where
+    pub none-left : keptAt t from ≡ [] → blocksAt k (length t) f from (keptAt t from) ≡ taken []
+    unfolding blocksAt
+    none-left q = by k
+      where
+        by : (k : ℕ) → blocksAt k (length t) f from (keptAt t from) ≡ taken []
+        by zero = refl
+        by (suc k) = rw q
+
+    pub one-left : (r : KeptRow) (u : List KeptRow) → keptAt t from ≡ r ∷ u
+        → blocksAt (suc k) (length t) f from (keptAt t from)
+        ≡ (blockAt (length t) f (keptAt t from) >>= λ b. blocksAt k (length t) f (b .value .lf + 1) (b .rest) >>= λ es. taken (entry from (b .value) ∷ es))
+    unfolding blocksAt
+    one-left r u q = rw q
+
+  -- all blocks of an accepted tape stand behind its head
+  pub behind-head : (es : List Entry) → read f t ≡ taken es → (lf : ℕ) (rest : List KeptRow) → headAt (length t) (kept t) ≡ taking lf rest → Left (lf + 1) es
+  behind-head es e lf rest h =
+      let r = head-rows (length t) (kept t) _ h in
+      let same = rows-behind t 0 lf rest (r .stands .to) (r .split) in
+      let blocks = sym (program-blocks (length t) f (kept t) lf rest h) ∙ sym (read-clean f t (clean (judged t) refl)) ∙ e in
+      record { fuel = length (keptAt t (lf + 1)); enough = le-refl _; come = rw same at blocks }
+    where
+      clean : (a : Answer (Unit {0})) → judged t ≡ a → judged t ≡ taken tt
+      clean (taken x) q = q
+      clean (refused n p) q = let bad = sym (read-refused f t n p q) ∙ e in let z : _≡_ {A = ℕ} 0 1 = cc in absurd (omega arith)
+
+  -- ---- block n
+
+  abbrev Own : List Entry → ℕ → Type 0
+  Own es n = blockOnly (blockAt (length t) f (keptAt t (getD es n nowhere .from))) ≡ taken (getD es n nowhere .block)
+
+  module _ (k from : ℕ) (turn : (i : ℕ) (es : List Entry) → blocksAt k (length t) f i (keptAt t i) ≡ taken es → (n : ℕ) → n < length es → Own es n) (es : List Entry) where
+    by-next : (b : Behind BlockRead) → blockAt (length t) f (keptAt t from) ≡ taken b → (a : Answer (List Entry)) → blocksAt k (length t) f (b .value .lf + 1) (b .rest) ≡ a
+        → (a >>= λ x. taken (entry from (b .value) ∷ x)) ≡ taken es → (n : ℕ) → n < length es → Own es n
+    by-next b i (refused x y) j e n l = let z : _≡_ {A = ℕ} 0 1 = cc in absurd (omega arith)
+    by-next b i (taken xs) j e n l =
+        let all : es ≡ entry from (b .value) ∷ xs = ap (valueOr []) (sym e) in
+        rw all (each n (rw all at l))
+      where
+        each : (n : ℕ) → n < suc (length xs) → Own (entry from (b .value) ∷ xs) n
+        each zero h = ap blockOnly i
+        each (suc n) h = turn (b .value .lf + 1) xs (rw (block-behind from b i) at j) n (le-of-suc-le-suc h)
+
+    by-block : (a : Answer (Behind BlockRead)) → blockAt (length t) f (keptAt t from) ≡ a
+        → (a >>= λ b. blocksAt k (length t) f (b .value .lf + 1) (b .rest) >>= λ x. taken (entry from (b .value) ∷ x)) ≡ taken es → (n : ℕ) → n < length es → Own es n
+    by-block (refused x y) i e n l = let z : _≡_ {A = ℕ} 0 1 = cc in absurd (omega arith)
+    by-block (taken b) i e n l = by-next b i (blocksAt k (length t) f (b .value .lf + 1) (b .rest)) refl e n l
+
+    by-rows : (rs : List KeptRow) → keptAt t from ≡ rs → blocksAt (suc k) (length t) f from (keptAt t from) ≡ taken es → (n : ℕ) → n < length es → Own es n
+    by-rows [] q e n l = let none : es ≡ [] = ap (valueOr []) (sym e ∙ none-left (suc k) from q) in absurd (not-suc-le-zero (rw none at l))
+    by-rows (r ∷ u) q e n l = by-block (blockAt (length t) f (keptAt t from)) refl (sym (one-left k from r u q) ∙ e) n l
+
+  own-left : (k from : ℕ) (es : List Entry) → blocksAt k (length t) f from (keptAt t from) ≡ taken es → (n : ℕ) → n < length es → Own es n
+  unfolding blocksAt
+  own-left zero from es e n l = let none : es ≡ [] = ap (valueOr []) (sym e) in absurd (not-suc-le-zero (rw none at l))
+  own-left (suc k) from es e n l = by-rows k from (λ i xs. own-left k i xs) es (keptAt t from) refl e n l
+
+  pub own-block : (es : List Entry) → read f t ≡ taken es → (n : ℕ) → n < length es → blockOnly (blockAt (length t) f (keptAt t (getD es n nowhere .from))) ≡ taken (getD es n nowhere .block)
+  own-block es e n l = by (headAt (length t) (kept t)) refl
+    where
+      by : (a : Answer (Behind ℕ)) → headAt (length t) (kept t) ≡ a → Own es n
+      by (taken h) q = let g = behind-head es e (h .value) (h .rest) q in own-left (g .fuel) (h .value + 1) es (g .come) n l
+      by (refused m p) q = headless (judged t) refl
+        where
+          headless : (a : Answer (Unit {0})) → judged t ≡ a → Own es n
+          headless (taken x) j = let bad = sym (read-clean f t j ∙ program-refused (length t) f (kept t) m p q) ∙ e in let z : _≡_ {A = ℕ} 0 1 = cc in absurd (omega arith)
+          headless (refused x y) j = let bad = sym (read-refused f t x y j) ∙ e in let z : _≡_ {A = ℕ} 0 1 = cc in absurd (omega arith)
+
+-- ---- what is handed back of block n
+
+pub no-block : (n : ℕ) (a : Answer (List Entry)) (m p : ℕ) → hasBlock n (sizeOf a) ≡ refused m p → emptyBlock ≡ blockIn n a
+no-block n (refused x y) m p e = refl
+no-block n (taken es) m p e = by (ltb n (length es)) refl e
+  where
+    by : (b : Bool) → ltb n (length es) ≡ b → _≡_ {A = Answer (Unit {0})} (cond b (taken tt) (refused 15 (length es))) (refused m p) → emptyBlock ≡ getD es n nowhere .block
+    by true q h = let z : _≡_ {A = ℕ} 0 1 = cc in absurd (omega arith)
+    by false q h = sym (ap (λ x. x .block) (List·getD-eq-default es nowhere {n = n} (ltb-false n (length es) q)))
+
+pub block-there : (f : Format) (t : List ℕ) (n : ℕ) → hasBlock n (sizeOf (read f t)) ≡ taken tt → (part : Part) → part ≡ partIn n (read f t)
+    → (rs : List KeptRow) → rs ≡ keptAt t (part .from) → valueOr emptyBlock (blockOnly (blockAt (length t) f rs)) ≡ blockIn n (read f t)
+block-there f t n e part q rs o = rw o (by (read f t) refl e q)
+  where
+    by : (a : Answer (List Entry)) → read f t ≡ a → hasBlock n (sizeOf a) ≡ taken tt → part ≡ partIn n a
+        → valueOr emptyBlock (blockOnly (blockAt (length t) f (keptAt t (part .from)))) ≡ blockIn n a
+    by (refused x y) r h w = let z : _≡_ {A = ℕ} 0 1 = cc in absurd (omega arith)
+    by (taken es) r h w = among (ltb n (length es)) refl h
+      where
+        among : (b : Bool) → ltb n (length es) ≡ b → _≡_ {A = Answer (Unit {0})} (cond b (taken tt) (refused 15 (length es))) (taken tt)
+            → valueOr emptyBlock (blockOnly (blockAt (length t) f (keptAt t (part .from)))) ≡ getD es n nowhere .block
+        among true l h = rw w (ap (valueOr emptyBlock) (own-block f t es r n (ltb-true n (length es) l)))
+        among false l h = let z : _≡_ {A = ℕ} 0 1 = cc in absurd (omega arith)
