@@ -15,8 +15,8 @@ use Rattle.reading.specs.Figures.{Behind, taking, ended}
 use Rattle.reading.specs.Parse.{Entry, blockAt, blocksAt}
 use Rattle.reading.specs.Answers.{nowhere}
 use Rattle.reading.specs.Front.{lfOf, sizeOf, restOf, Begun, startAt, nothing, past, itemAt, openedAt}
-use Rattle.reading.specs.Items.{Leads, LeftOut}
-use Rattle.reading.proofs.DueItems.{left-out}
+use Rattle.reading.specs.Items.{Leads, dueAt}
+use Rattle.reading.proofs.DueItems.{from-due}
 use Rattle.reading.proofs.BlockWalk.{Onward, onward, Held, holds-refused}
 use Rattle.reading.proofs.ItemSteps.{restFrom, item-passed, none-left}
 use Rattle.reading.proofs.Started.{start-refused, then-closes}
@@ -118,8 +118,8 @@ module _ {X : Type 0} (ask : Entry → X) (w n : ℕ) (f : Format) (first : ℕ)
     block-refused m p e none q = holds-refused ask w n f first start (g .before) (g .row) (g .others) refl m p e none q
 
     -- the items that are left out at the front
-    pub skips : {leads : List ℕ} → Leads f leads → (r : ℕ) → LeftOut leads (f .dots) k r rs → InBlock from r rs count held
-    skips {leads} l r o = record { row = g .row; others = g .others; before = g .before; left = left-by (ap restOf (left-out n f h leads l rs k r o)) }
+    pub skips : {leads : List ℕ} → Leads f leads → k ≤ 22 → (r : ℕ) → r ≡ dueAt leads (f .dots) k rs → InBlock from r rs count held
+    skips {leads} l m r e = record { row = g .row; others = g .others; before = g .before; left = left-by (ap restOf (from-due n f h leads l rs k m r e)) }
 
     module _ (l : k < f .count) where
       pub item-stops : taken nothing ≡ itemAt n (f .dots) (getD (f .items) k blank) rs → InBlock from (f .count) rs count held

@@ -1,25 +1,32 @@
--- Which item is due: where the letters of a Format lead, and which items may be passed by at some rows.
-use Prim.Native.Nat.{ℕ, _≤_, _<_}
+-- Which item is due: where the letters of a Format lead, and the next item that may have a word at the front.
+use Prim.Native.Nat.{ℕ, _<_}
 use mathlib.Core.Path.{_≡_}
-use mathlib.Core.Bool.{Bool, true, false}
-use mathlib.Core.List.{List}
+use mathlib.Core.Bool.{Bool, cond}
+use mathlib.Core.List.{List, [], _∷_}
+use lib.Dec.{ltb}
 use lib.ListN.{length, getD}
 use Rattle.rows.specs.Kept.{KeptRow}
 use Rattle.shorthand.specs.declared.Format.{Format}
 use Rattle.shorthand.specs.Layout.{blank}
-use Rattle.reading.specs.Figures.{fronts}
 
 -- where a character leads
 abbrev pub leadOf : List ℕ → ℕ → ℕ
 leadOf leads c = getD leads c 0
 
--- all 256 characters lead somewhere, and each item's letter to the item
+abbrev pub letterAt : Format → ℕ → ℕ
+letterAt f k = getD (f .items) k blank .letter
+
+-- each of the 256 characters leads to the item with that letter, or to 22, where there is none
 pub record Leads (f : Format) (leads : List ℕ) : Type 0 where
   pub all : 256 ≡ length leads
-  pub own : (k : ℕ) → k < f .count → leadOf leads (getD (f .items) k blank .letter) ≡ k
+  pub own : (k : ℕ) → k < f .count → leadOf leads (letterAt f k) ≡ k
+  pub others : (c : ℕ) → c < 256 → ((k : ℕ) → k < f .count → letterAt f k ≡ c → ⊥) → leadOf leads c ≡ 22
 
--- no letter that leads to an item from k up to r is at the front; with tabs no item is passed by
-pub record LeftOut (leads : List ℕ) (dots : Bool) (k r : ℕ) (rs : List KeptRow) : Type 0 where
-  pub on : k ≤ r
-  pub tabs : dots ≡ true → r ≡ k
-  pub other : (c : ℕ) → k ≤ leadOf leads c → leadOf leads c < r → fronts c rs ≡ false
+-- without tabs an item before item k is not due again
+abbrev pub dueFrom : List ℕ → ℕ → List KeptRow → ℕ
+dueFrom leads k [] = 22
+dueFrom leads k (r ∷ rs) = cond (ltb (leadOf leads (r .char)) k) 22 (leadOf leads (r .char))
+
+-- the first item from item k on that may have a word at the front: with tabs item k itself, without them the one that the front leads to, or 22
+unfoldable pub dueAt : List ℕ → Bool → ℕ → List KeptRow → ℕ
+dueAt leads dots k rs = cond dots k (dueFrom leads k rs)

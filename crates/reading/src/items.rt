@@ -1,11 +1,11 @@
 // Which item is due next: a letter leads straight to its item, so that those left out between are not tried one by one.
 ghost use mathlib.Core.List.{List};
-ghost use Prim.Native.Nat.{ℕ, _≤_};
+ghost use Prim.Native.Nat.{ℕ};
 ghost use mathlib.Core.Path.{_≡_};
 ghost use lib.ListN.{length};
 ghost use Rattle.shorthand.specs.Facts.{Facts};
 ghost use Rattle.reading.specs.Front.{rowsAt};
-ghost use Rattle.reading.specs.Items.{Leads, LeftOut};
+ghost use Rattle.reading.specs.Items.{Leads, dueAt};
 use rows::Next;
 use shorthand::Format;
 
@@ -27,8 +27,8 @@ pub fn lead_letters(format: Format) -> [u8; 256]
 
 // The first item from item k on that may have a word at the front; with tabs that is item k itself.
 pub fn due_item(leads: &[u8], dots: bool, k: usize, front: Next) -> usize
-    requires { ⌜ (256 ≡ length (now leads)) × (k ≤ 22) ⌝ }
-    ensures { λ r. ⌜ ((t : List ℕ) → LeftOut (now (leads .entry)) dots k r (rowsAt t front)) ⌝ }
+    requires { ⌜ 256 ≡ length (now leads) ⌝ }
+    ensures { λ r. ⌜ ((t : List ℕ) → r ≡ dueAt (now (leads .entry)) dots k (rowsAt t front)) ⌝ }
 {
     if dots {
         return k;

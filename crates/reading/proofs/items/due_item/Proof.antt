@@ -1,12 +1,14 @@
 -- `reading::items::due_item`: each way out by where the front leads.
 use mir.Facts.{fits-widen}
 use borrow.Author.Needs.{needs}
-use Rattle.reading.proofs.DueItems.{due-tabs, due-end, due-none, due-led}
+use borrow.Author.Tests.{lt-ltb, le-ltb}
+use Rattle.reading.specs.Items.{dueAt}
 use Rattle.reading.proofs.items.due_item.Statement.{statement}
 use Rattle.reading.proofs.items.due_item.Tie as tie
 
 returns : tie.Need-returns
-returns c = λ t. rw (c .if1 .taken) (due-tabs _ _ _)
+unfolding dueAt
+returns c = λ t. rw (c .if1 .taken)
 
 enum-told : tie.Need-enum-told
 enum-told c = search needs
@@ -24,13 +26,16 @@ cast-led-2 : tie.Need-cast-led-2
 cast-led-2 c = fits-widen tt (c .shared-slice-known .given _)
 
 returns-2 : tie.Need-returns-2
-returns-2 c = λ t. rw (c .before .before .if1 .left, c .enum-told .given .1) (due-end _ _ (c .before .before .before .pre .1))
+unfolding dueAt
+returns-2 c = λ t. rw (c .before .before .if1 .left, c .enum-told .given .1)
 
 returns-3 : tie.Need-returns-3
-returns-3 c = λ t. rw (c .before .before .before .before .before .if1 .left, c .before .before .before .front .given .1) (due-none _ _ _ _ (c .before .before .before .before .before .before .pre .1) (c .if2 .taken))
+unfolding dueAt
+returns-3 c = λ t. rw (c .before .before .before .before .before .if1 .left, c .before .before .before .front .given .1, lt-ltb _ _ (c .if2 .taken))
 
 returns-4 : tie.Need-returns-4
-returns-4 c = λ t. rw (c .before .before .before .before .before .if1 .left, c .before .before .before .front .given .1) (due-led _ _ _ _ (c .if2 .left))
+unfolding dueAt
+returns-4 c = λ t. rw (c .before .before .before .before .before .if1 .left, c .before .before .before .front .given .1, le-ltb _ _ (c .if2 .left))
 
 pub due-item-spec : {M : Type 1} → statement M
 due-item-spec =

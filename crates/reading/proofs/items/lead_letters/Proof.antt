@@ -1,6 +1,6 @@
 -- `reading::items::lead_letters`: the letters of the items done so far lead to them.
 use mathlib.Core.Path.{refl}
-use Prim.Native.Nat.{_-_}
+use Prim.Native.Nat.{_-_, _≤_}
 use native.Mathlib.Omega.{arith}
 use borrow.Author.Needs.{needs}
 use Rattle.reading.proofs.DueItems.{Led, led-none, led-more, led-all}
@@ -8,13 +8,13 @@ use Rattle.reading.proofs.items.lead_letters.Statement.{statement}
 use Rattle.reading.proofs.items.lead_letters.Tie as tie
 
 abbrev Inv-loop : tie.InvT-loop
-Inv-loop format leads₀ k₀ leads k = Led format leads k
+Inv-loop format leads₀ k₀ leads k = Led format leads k × (k ≤ format .count)
 
 abbrev μ-loop : tie.MeasureT-loop
 μ-loop format leads₀ k₀ leads k = format .count - k
 
 loop-holds : tie.Need-loop-holds Inv-loop μ-loop
-loop-holds c = led-none _ _ refl
+loop-holds c = (led-none _ _ refl, omega arith)
 
 mul-item : tie.Need-mul-item Inv-loop μ-loop
 mul-item c = search needs
@@ -38,10 +38,10 @@ loop-less : tie.Need-loop-less Inv-loop μ-loop
 loop-less c = search needs
 
 loop-again : tie.Need-loop-again Inv-loop μ-loop
-loop-again c = led-more _ (c .before .before .before .before .pre) (c .before .before .before .loop .inv) (c .before .before .loop-test .taken) (array-write-leads c)
+loop-again c = (led-more _ (c .before .before .before .before .pre) (c .before .before .before .loop .inv .0) (c .before .before .loop-test .taken) (array-write-leads c), omega (arith, c .before .before .loop-test .taken))
 
 returns : tie.Need-returns Inv-loop μ-loop
-returns c = led-all _ (c .before .loop .inv) (c .loop-test .left)
+returns c = led-all _ (c .before .loop .inv .0) (omega (arith, c .before .loop .inv .1, c .loop-test .left))
 
 pub lead-letters-spec : {M : Type 1} → statement M
 lead-letters-spec =

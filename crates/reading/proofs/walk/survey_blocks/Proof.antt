@@ -9,6 +9,7 @@ use denote.Ref.{now}
 use borrow.Author.Needs.{needs}
 use Rattle.reading.specs.Front.{rowsAt, foundTold, passedTold, partOf}
 use Rattle.reading.proofs.BlockWalk.{holds-none, holds-all, holds-next}
+use Rattle.reading.proofs.DueItems.{due-on}
 use Rattle.reading.proofs.Fetched.{fetched}
 use Rattle.reading.proofs.InBlock.{Along, inside, still-inside, between, over, opens, opens-refused, ends, closes, block-refused, skips, item-stops, item-behind, item-refused}
 use Rattle.reading.proofs.ItemSteps.{widths-at}
@@ -58,7 +59,7 @@ slice-aggregate-due-item : tie.Need-slice-aggregate-due-item Inv-loop μ-loop
 slice-aggregate-due-item c = search needs
 
 due-item-requires : tie.Need-due-item-requires Inv-loop μ-loop
-due-item-requires c κs = (c .before .before .before .before .before .before .before .lead-letters .ensures .all, omega arith)
+due-item-requires c κs = c .before .before .before .before .before .before .before .lead-letters .ensures .all
 
 loop-less : tie.Need-loop-less Inv-loop μ-loop
 loop-less c = rw (c .before .before .before .before .before .before .if1 .taken) (omega arith)
@@ -66,7 +67,7 @@ loop-less c = rw (c .before .before .before .before .before .before .if1 .taken)
 loop-again : tie.Need-loop-again Inv-loop μ-loop
 loop-again c =
     let g = opens _ _ _ _ _ _ _ (between _ _ _ _ _ _ _ _ (c .before .before .before .before .before .before .if1 .taken) (c .before .before .before .before .before .before .before .loop .inv)) _ (sym (c .before .before .before .before .before .open-block .ensures) ∙ ap (passedTold _) (c .before .before .before .next .given .1)) in
-    skips _ _ _ _ _ _ (c .before .before .before .before .before .before .before .before .before .before .pre .0) g (c .before .before .before .before .before .before .before .before .lead-letters .ensures) _ (c .due-item .ensures _)
+    skips _ _ _ _ _ _ (c .before .before .before .before .before .before .before .before .before .before .pre .0) g (c .before .before .before .before .before .before .before .before .lead-letters .ensures) (omega arith) _ (c .due-item .ensures _)
 
 enum-known-r : tie.Need-enum-known-r Inv-loop μ-loop
 enum-known-r c = search needs
@@ -99,15 +100,17 @@ add-due-item : tie.Need-add-due-item Inv-loop μ-loop
 add-due-item c = omega (arith, c .before .before .before .before .before .before .before .before .before .before .before .pre .0 .few)
 
 due-item-requires-2 : tie.Need-due-item-requires-2 Inv-loop μ-loop
-due-item-requires-2 c κs = (c .before .before .before .before .before .before .before .before .before .lead-letters .ensures .all, omega (arith, c .before .before .before .before .before .before .if2 .taken, c .before .before .before .before .before .before .before .before .before .before .before .pre .0 .few))
+due-item-requires-2 c κs = c .before .before .before .before .before .before .before .before .before .lead-letters .ensures .all
 
 loop-less-3 : tie.Need-loop-less-3 Inv-loop μ-loop
-loop-less-3 c = rw (c .before .before .before .before .before .before .before .before .if1 .left) (omega (arith, c .due-item2 .ensures [] .on, c .before .before .before .before .before .before .before .if2 .taken, c .before .before .before .before .before .before .before .before .before .before .before .before .pre .0 .few))
+loop-less-3 c =
+    rw (c .before .before .before .before .before .before .before .before .if1 .left)
+    (omega (arith, due-on _ _ (omega (arith, c .before .before .before .before .before .before .before .if2 .taken, c .before .before .before .before .before .before .before .before .before .before .before .before .pre .0 .few)) _ _ _ (c .due-item2 .ensures []), c .before .before .before .before .before .before .before .if2 .taken, c .before .before .before .before .before .before .before .before .before .before .before .before .pre .0 .few))
 
 loop-again-3 : tie.Need-loop-again-3 Inv-loop μ-loop
 loop-again-3 c =
     let g = item-behind _ _ _ _ _ _ (c .before .before .before .before .before .before .before .before .before .before .before .before .pre .0) (inside _ _ _ _ _ _ _ _ (c .before .before .before .before .before .before .before .before .if1 .left) (c .before .before .before .before .before .before .before .before .before .loop .inv)) (c .before .before .before .before .before .before .before .if2 .taken) _ (sym (ap (passedTold _) (c .before .before .before .next2 .given .1)) ∙ c .before .before .before .before .before .pass-item .ensures) in
-    still-inside _ _ _ _ _ _ _ _ (c .before .before .before .before .before .before .before .before .if1 .left) (skips _ _ _ _ _ _ (c .before .before .before .before .before .before .before .before .before .before .before .before .pre .0) g (c .before .before .before .before .before .before .before .before .before .before .lead-letters .ensures) _ (c .due-item2 .ensures _))
+    still-inside _ _ _ _ _ _ _ _ (c .before .before .before .before .before .before .before .before .if1 .left) (skips _ _ _ _ _ _ (c .before .before .before .before .before .before .before .before .before .before .before .before .pre .0) g (c .before .before .before .before .before .before .before .before .before .before .lead-letters .ensures) (omega (arith, c .before .before .before .before .before .before .before .if2 .taken, c .before .before .before .before .before .before .before .before .before .before .before .before .pre .0 .few)) _ (c .due-item2 .ensures _))
 
 enum-known-r-2 : tie.Need-enum-known-r-2 Inv-loop μ-loop
 enum-known-r-2 c = search needs
