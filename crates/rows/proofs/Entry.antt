@@ -1,8 +1,8 @@
--- What a row's table entry tells: 133 exactly where the row is odd, 134 exactly where it is even and not one of the 50.
+-- What a row's table entry tells: 133 exactly where the row is odd, 134 exactly where it is even and not one of the 50, and else the character.
 use mathlib.Core.Path.{_≡_, refl}
 use mathlib.Core.Logic.{_↔_}
 use mathlib.Core.Bool.{Bool, true, false, cond}
-use Prim.Native.Nat.{ℕ, _%_, _<_}
+use Prim.Native.Nat.{ℕ, _%_, _≤_, _<_}
 use native.Mathlib.Nat.{mod-lt}
 use native.Mathlib.Omega.{arith}
 use lib.Dec.{T, eqb, lit<}
@@ -23,6 +23,16 @@ foreign-by true true c h t = (λ _. tt, λ _. ne-eqb c 134 (λ q. omega arith))
 foreign-by true false c h t = (λ q. let z : _≡_ {A = ℕ} 0 1 = cc in omega arith, λ x. absurd x)
 foreign-by false k c h t = absurd t
 
+highest-by : (e k : Bool) (c : ℕ) → c < 128 → by e k c ≤ 134
+highest-by true true c h = omega arith
+highest-by true false c h = omega arith
+highest-by false k c h = omega arith
+
+character-by : (e k : Bool) (c : ℕ) → by e k c < 133 → by e k c ≡ c
+character-by true true c h = refl
+character-by true false c h = omega arith
+character-by false k c h = omega arith
+
 pub even-entry : (b : ℕ) → (eqb (entry b) 133 ≡ false) ↔ T (even b)
 unfolding entry
 even-entry b = odd-by (even b) (among (character b) characters) (character b) (mod-lt b (lit< tt))
@@ -30,3 +40,13 @@ even-entry b = odd-by (even b) (among (character b) characters) (character b) (m
 pub known-entry : (b : ℕ) → T (even b) → (eqb (entry b) 134 ≡ false) ↔ T (among (character b) characters)
 unfolding entry
 known-entry b = foreign-by (even b) (among (character b) characters) (character b) (mod-lt b (lit< tt))
+
+-- no entry is above 134
+pub entry-highest : (b : ℕ) → entry b ≤ 134
+unfolding entry
+entry-highest b = highest-by (even b) (among (character b) characters) (character b) (mod-lt b (lit< tt))
+
+-- one below 133 is the character
+pub entry-character : (b : ℕ) → entry b < 133 → entry b ≡ character b
+unfolding entry
+entry-character b = character-by (even b) (among (character b) characters) (character b)

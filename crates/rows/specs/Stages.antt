@@ -70,6 +70,10 @@ inLimit t = cond (ltb limit (length t)) (refused 4 limit) (taken tt)
 unfoldable pub judged : List ℕ → Answer (Unit {0})
 judged t = inLimit t >> refuseAt 5 (barred 5 t) >> refuseAt 6 (barred 6 t) >> refuseAt 7 (scan Outside 0 t)
 
--- 5 and then 6 by themselves
-abbrev pub rowsJudged : List ℕ → Answer (Unit {0})
-rowsJudged t = refuseAt 5 (barred 5 t) >> refuseAt 6 (barred 6 t)
+-- 5 and then 6 of the rows t, counted from i, and what is answered otherwise
+unfoldable pub rowsThen : ℕ → List ℕ → Answer (Unit {0}) → Answer (Unit {0})
+rowsThen i t otherwise = refuseAt 5 (lowest (λ b. eqb (entry b) (128 + 5)) i t) >> refuseAt 6 (lowest (λ b. eqb (entry b) (128 + 6)) i t) >> otherwise
+
+-- 5, 6 and 7 of the rows t, counted from i, where the scan of control-outs stands on a side
+abbrev pub judgedFrom : Side → ℕ → List ℕ → Answer (Unit {0})
+judgedFrom m i t = rowsThen i t (refuseAt 7 (scan m i t))

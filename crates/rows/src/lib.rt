@@ -6,7 +6,7 @@ ghost use lib.Dec.{leb};
 ghost use lib.ListN.{drop};
 ghost use Rattle.rows.specs.Answer.{told};
 ghost use Rattle.rows.specs.Row.{entry, Tabulated, even};
-ghost use Rattle.rows.specs.Stages.{lowest, step, unclosed, scan, rowsJudged, judged};
+ghost use Rattle.rows.specs.Stages.{lowest, step, unclosed, rowsThen, judgedFrom, judged};
 ghost use Rattle.rows.specs.Kept.{turn, keptAt, firstOf};
 
 mod table;
@@ -67,9 +67,6 @@ const ODD: u8 = 133;
 
 const FOREIGN: u8 = 134;
 
-// What no entry of the table is above.
-const HIGHEST: u8 = 255;
-
 // Whether a row has an even number of holes, by the count itself and not by the table.
 pub fn has_even_holes(row: u8) -> bool
     ensures { λ r. ⌜ r ≡ even row ⌝ }
@@ -99,12 +96,12 @@ pub fn entry_of(row: u8) -> u8
     look_up(&table[..], row)
 }
 
-// The lowest row whose entry is within a range.
-fn find_entry(tape: &[u8], table: &[u8], least: u8, most: u8) -> Found
+// The lowest row from a place on whose entry is within a range.
+fn find_entry(tape: &[u8], table: &[u8], from: usize, least: u8, most: u8) -> Found
     requires { ⌜ Tabulated (now table) ⌝ }
-    ensures { λ r. ⌜ r ≡ lowest (λ b. leb least (entry b) && leb (entry b) most) 0 (now (tape .entry)) ⌝ }
+    ensures { λ r. ⌜ r ≡ lowest (λ b. leb least (entry b) && leb (entry b) most) from (drop from (now (tape .entry))) ⌝ }
 {
-    let mut i = 0;
+    let mut i = from;
     while i < tape.len() {
         let entry = look_up(table, tape[i]);
         if least <= entry && entry <= most {
@@ -147,14 +144,19 @@ fn left_open(side: Side) -> Found
     }
 }
 
-// The next "(" or ")" from a place on, or the end of the tape: outside, the scan passes all before it by.
-fn find_bracket(tape: &[u8], at: usize) -> usize
+// The next row from a place on that is odd, foreign, "(" or ")", or the end of the tape: outside, the walk passes all before it by.
+fn find_mark(tape: &[u8], table: &[u8], at: usize) -> usize
+    requires { ⌜ Tabulated (now table) ⌝ }
     ensures on { λ r. ⌜ at ≤ r ⌝ }
-    ensures scan { λ r. ⌜ scan Side.Outside at (drop at (now (tape .entry))) ≡ scan Side.Outside r (drop r (now (tape .entry))) ⌝ }
+    ensures same { λ r. ⌜ judgedFrom Side.Outside at (drop at (now (tape .entry))) ≡ judgedFrom Side.Outside r (drop r (now (tape .entry))) ⌝ }
 {
     let mut i = at;
     while i < tape.len() {
-        match tape[i] % 128 {
+        let c = look_up(table, tape[i]);
+        if ODD <= c {
+            return i;
+        }
+        match c {
             40 | 41 => {
                 return i;
             }
@@ -165,53 +167,71 @@ fn find_bracket(tape: &[u8], at: usize) -> usize
     i
 }
 
-// The next row that the scan has to look at.
-fn pass_plain(tape: &[u8], side: Side, at: usize) -> usize
+// The next row that the walk has to look at.
+fn pass_plain(tape: &[u8], table: &[u8], side: Side, at: usize) -> usize
+    requires { ⌜ Tabulated (now table) ⌝ }
     ensures on { λ r. ⌜ at ≤ r ⌝ }
-    ensures scan { λ r. ⌜ scan side at (drop at (now (tape .entry))) ≡ scan side r (drop r (now (tape .entry))) ⌝ }
+    ensures same { λ r. ⌜ judgedFrom side at (drop at (now (tape .entry))) ≡ judgedFrom side r (drop r (now (tape .entry))) ⌝ }
 {
     match side {
-        Side::Outside => find_bracket(tape, at),
+        Side::Outside => find_mark(tape, table, at),
         Side::Inside(_) => at,
         Side::Spoilt(_, _) => at,
     }
 }
 
-// The lowest fault of the control-outs.
-fn find_fault(tape: &[u8]) -> Found
-    ensures { λ r. ⌜ r ≡ scan Side.Outside 0 (now (tape .entry)) ⌝ }
+// 5 and then 6 of the rows from a place on, and what is answered otherwise.
+fn check_rows(tape: &[u8], table: &[u8], from: usize, otherwise: Checked) -> Checked
+    requires { ⌜ Tabulated (now table) ⌝ }
+    ensures { λ r. ⌜ told r ≡ rowsThen from (drop from (now (tape .entry))) (told otherwise) ⌝ }
+{
+    let Found::At(place) = find_entry(tape, table, from, ODD, FOREIGN) else {
+        return otherwise;
+    };
+    if look_up(table, tape[place]) == ODD {
+        return Checked::Refused(Refusal { number: 5, place });
+    }
+    if let Found::At(odd) = find_entry(tape, table, place + 1, ODD, ODD) {
+        return Checked::Refused(Refusal {
+            number: 5,
+            place: odd,
+        });
+    }
+    Checked::Refused(Refusal { number: 6, place })
+}
+
+// 5, 6 and 7 in one walk: from an odd or foreign row on only 5 and 6 can be the answer, and behind a fault of the control-outs they come before it.
+fn walk_rows(tape: &[u8], table: &[u8]) -> Checked
+    requires { ⌜ Tabulated (now table) ⌝ }
+    ensures { λ r. ⌜ told r ≡ judgedFrom Side.Outside 0 (now (tape .entry)) ⌝ }
 {
     let mut side = Side::Outside;
-    let mut i = find_bracket(tape, 0);
+    let mut i = find_mark(tape, table, 0);
     while i < tape.len() {
-        match step_over(side, i, tape[i] % 128) {
+        let entry = look_up(table, tape[i]);
+        if ODD <= entry {
+            return check_rows(tape, table, i, Checked::Clean);
+        }
+        let after = i + 1;
+        match step_over(side, i, entry) {
             Step::On(m) => {
                 side = m;
             }
-            Step::Fault(p) => {
-                return Found::At(p);
+            Step::Fault(place) => {
+                return check_rows(
+                    tape,
+                    table,
+                    after,
+                    Checked::Refused(Refusal { number: 7, place }),
+                );
             }
         }
-        i = pass_plain(tape, side, i + 1);
+        i = pass_plain(tape, table, side, after);
     }
-    left_open(side)
-}
-
-// The parity and then the characters of a whole tape. A tape that passes is walked over once for both.
-fn check_rows(tape: &[u8]) -> Checked
-    ensures { λ r. ⌜ told r ≡ rowsJudged (now (tape .entry)) ⌝ }
-{
-    let table = lay_out();
-    let Found::At(_) = find_entry(tape, &table[..], ODD, HIGHEST) else {
-        return Checked::Clean;
-    };
-    if let Found::At(place) = find_entry(tape, &table[..], ODD, ODD) {
-        return Checked::Refused(Refusal { number: 5, place });
+    match left_open(side) {
+        Found::Nowhere => Checked::Clean,
+        Found::At(place) => Checked::Refused(Refusal { number: 7, place }),
     }
-    if let Found::At(place) = find_entry(tape, &table[..], FOREIGN, FOREIGN) {
-        return Checked::Refused(Refusal { number: 6, place });
-    }
-    Checked::Clean
 }
 
 // Stages 1 to 3 of a whole tape, in document 01's order.
@@ -224,13 +244,8 @@ pub fn check(tape: &[u8]) -> Checked
             place: LIMIT,
         });
     }
-    if let Checked::Refused(r) = check_rows(tape) {
-        return Checked::Refused(r);
-    }
-    if let Found::At(place) = find_fault(tape) {
-        return Checked::Refused(Refusal { number: 7, place });
-    }
-    Checked::Clean
+    let table = lay_out();
+    walk_rows(tape, &table[..])
 }
 
 fn turn_at(within: bool, c: u8) -> Turn

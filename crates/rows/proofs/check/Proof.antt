@@ -1,10 +1,9 @@
--- `rows::check` meets its contract: each way out by what the stages before it found.
-use mathlib.Core.Path.{_∙_, sym, ap}
+-- `rows::check` meets its contract: past the limit at once, else by the one walk.
+use mathlib.Core.Path.{_∙_, sym}
 use borrow.Author.Needs.{needs}
 use borrow.Author.Tests.{lt-ltb, le-ltb}
-use Rattle.rows.specs.Answer.{told}
-use Rattle.rows.specs.Stages.{refuseAt, judged}
-use Rattle.rows.proofs.StageOrder.{by-rows}
+use Rattle.rows.specs.Stages.{judged}
+use Rattle.rows.proofs.StageOrder.{judged-whole}
 use Rattle.rows.proofs.check.Statement.{statement}
 use Rattle.rows.proofs.check.Tie as tie
 
@@ -12,50 +11,19 @@ returns : tie.Need-returns
 unfolding judged
 returns c = rw (lt-ltb _ _ (c .if1 .taken))
 
-check-rows-requires : tie.Need-check-rows-requires
-check-rows-requires c κs = search needs
+lay-out-requires : tie.Need-lay-out-requires
+lay-out-requires c κs = search needs
 
-enum-known-r : tie.Need-enum-known-r
-enum-known-r c = search needs
+slice-aggregate-walk-rows : tie.Need-slice-aggregate-walk-rows
+slice-aggregate-walk-rows c = search needs
+
+walk-rows-requires : tie.Need-walk-rows-requires
+walk-rows-requires c κs = search needs
 
 returns-2 : tie.Need-returns-2
-returns-2 c = sym (by-rows _ (le-ltb _ _ (c .before .before .before .before .if1 .left)) _ (sym (ap told (c .before .r .given .1)) ∙ c .before .before .before .check-rows .ensures))
-
-enum-told : tie.Need-enum-told
-enum-told c = search needs
-
-find-fault-requires : tie.Need-find-fault-requires
-find-fault-requires c κs = search needs
-
-enum-known-place : tie.Need-enum-known-place
-enum-known-place c = search needs
-
-returns-3 : tie.Need-returns-3
-returns-3 c =
-    sym
-    (by-rows _ (le-ltb _ _ (c .before .before .before .before .before .before .before .if1 .left)) _ (sym (ap told (c .before .before .before .before .enum-told .given .1)) ∙ c .before .before .before .before .before .before .check-rows .ensures)
-    ∙ ap (refuseAt 7) (sym (c .before .before .before .find-fault .ensures) ∙ c .before .place .given .1))
-
-enum-told-2 : tie.Need-enum-told-2
-enum-told-2 c = search needs
-
-returns-4 : tie.Need-returns-4
-returns-4 c =
-    sym
-    (by-rows _ (le-ltb _ _ (c .before .before .before .before .before .before .if1 .left)) _ (sym (ap told (c .before .before .before .enum-told .given .1)) ∙ c .before .before .before .before .before .check-rows .ensures)
-    ∙ ap (refuseAt 7) (sym (c .before .before .find-fault .ensures) ∙ c .enum-told2 .given .1))
+returns-2 c = c .walk-rows .ensures ∙ sym (judged-whole _ (le-ltb _ _ (c .before .before .before .if1 .left)))
 
 pub check-spec : {M : Type 1} → statement M
 check-spec =
     tie.close
-    (tie.spec
-    returns
-    check-rows-requires
-    enum-known-r
-    returns-2
-    enum-told
-    find-fault-requires
-    enum-known-place
-    returns-3
-    enum-told-2
-    returns-4)
+    (tie.spec returns lay-out-requires slice-aggregate-walk-rows walk-rows-requires returns-2)

@@ -1,4 +1,4 @@
--- `rows::pass_plain` meets its contract: outside, by the next bracket; else every row is looked at.
+-- `rows::pass_plain` meets its contract: outside, by the next row to look at; else every row is looked at.
 use borrow.Author.Needs.{needs}
 use Rattle.rows.proofs.pass_plain.Statement.{statement}
 use Rattle.rows.proofs.pass_plain.Tie as tie
@@ -6,8 +6,8 @@ use Rattle.rows.proofs.pass_plain.Tie as tie
 enum-told : tie.Need-enum-told
 enum-told c = search needs
 
-find-bracket-requires : tie.Need-find-bracket-requires
-find-bracket-requires c κs = search needs
+find-mark-requires : tie.Need-find-mark-requires
+find-mark-requires c κs = search needs
 
 enum-told-2 : tie.Need-enum-told-2
 enum-told-2 c = search needs
@@ -16,7 +16,7 @@ enum-told-3 : tie.Need-enum-told-3
 enum-told-3 c = search needs
 
 returns : tie.Need-returns
-returns c = (c .find-bracket .ensures .0, rw (c .before .enum-told .given .1) (c .find-bracket .ensures .1))
+returns c = (c .find-mark .ensures .0, rw (c .before .enum-told .given .1) (c .find-mark .ensures .1))
 
 returns-2 : tie.Need-returns-2
 returns-2 c = search needs
@@ -27,4 +27,4 @@ returns-3 c = search needs
 pub pass-plain-spec : {M : Type 1} → statement M
 pass-plain-spec =
     tie.close
-    (tie.spec enum-told find-bracket-requires enum-told-2 enum-told-3 returns returns-2 returns-3)
+    (tie.spec enum-told find-mark-requires enum-told-2 enum-told-3 returns returns-2 returns-3)
