@@ -21,9 +21,9 @@ use Rattle.reading.specs.declared.Block.{Block}
 use Rattle.reading.specs.Record.{blank as no-word, blockOf}
 use Rattle.reading.specs.Figures.{Behind, taking, ended}
 use Rattle.reading.specs.Parse.{wordAt, consWord, wordsAt, BlockRead, Entry, entry, blockAt, blocksAt}
-use Rattle.reading.specs.Items.{Leads, LeftOut}
+use Rattle.reading.specs.Items.{Leads, dueAt}
 use Rattle.reading.specs.Front.{Standing, stops, out, at, standing, restOf, nothing, past, itemPassed, itemAt, Begun, startAt, openedAt, Rising, over}
-use Rattle.reading.proofs.DueItems.{left-out}
+use Rattle.reading.proofs.DueItems.{from-due, due-on}
 use Rattle.reading.proofs.BlockWalk.{before, before-none, before-more, Advances, advances}
 use Rattle.reading.proofs.Gathering.{prepend, prepend-none}
 use Rattle.reading.proofs.ItemSteps.{resumed, words-turn, words-over}
@@ -305,8 +305,8 @@ module _ (len : ℕ) (f : Format) (most first : ℕ) (start : List KeptRow) (l�
       refused-by m p e = block-refused (g .row) (g .others) (g .before) (g .less) m p e
 
       -- the items that are left out at the front
-      pub skips : {leads : List ℕ} → Leads f leads → (r : ℕ) → LeftOut leads (f .dots) k r rs → Inside next r rs blocks l bytes
-      skips {leads} e r o = record {
+      pub skips : {leads : List ℕ} → Leads f leads → k ≤ 22 → (r : ℕ) → r ≡ dueAt leads (f .dots) k rs → Inside next r rs blocks l bytes
+      skips {leads} e m r o = record {
         row = g .row;
         others = g .others;
         line = g .line;
@@ -315,10 +315,10 @@ module _ (len : ℕ) (f : Format) (most first : ℕ) (start : List KeptRow) (l�
         less = g .less;
         begins = g .begins;
         words = g .words;
-        left = left-by (left-out len f h leads e rs k r o);
+        left = left-by (from-due len f h leads e rs k m r o);
         put = g .put;
         had = g .had;
-        turns = omega (arith, g .turns, o .on);
+        turns = omega (arith, g .turns, due-on leads k m (f .dots) rs r o);
         upto = g .upto;
         short = g .short;
       }

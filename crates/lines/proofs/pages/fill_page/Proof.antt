@@ -8,6 +8,7 @@ use native.Mathlib.Omega.{arith}
 use lib.ListN.{length}
 use Rattle.rows.specs.Kept.{keptAt}
 use Rattle.reading.specs.Front.{rowsAt, foundTold}
+use Rattle.reading.proofs.DueItems.{due-on}
 use Rattle.reading.proofs.Fetched.{fetched}
 use Rattle.reading.proofs.InBlock.{over}
 use Rattle.reading.proofs.ItemSteps.{widths-at}
@@ -63,7 +64,7 @@ slice-aggregate-due-item : tie.Need-slice-aggregate-due-item Inv-loop μ-loop
 slice-aggregate-due-item c = search needs
 
 due-item-requires : tie.Need-due-item-requires Inv-loop μ-loop
-due-item-requires c κs = (c .before .before .before .before .before .before .before .before .before .before .before .before .lead-letters .ensures .all, omega arith)
+due-item-requires c κs = c .before .before .before .before .before .before .before .before .before .before .before .before .lead-letters .ensures .all
 
 loop-less : tie.Need-loop-less Inv-loop μ-loop
 loop-less c = rw (c .before .before .before .before .before .before .before .before .before .before .if1 .taken) (omega arith)
@@ -73,7 +74,7 @@ loop-again c =
     let g = between _ _ _ _ _ _ _ _ (c .before .before .before .before .before .before .before .before .before .before .if1 .taken) (c .before .before .before .before .before .before .before .before .before .before .before .loop .inv) in
     let told = sym (c .before .before .before .before .before .before .before .start-line .ensures .0) ∙ ap (stepTold _) (c .before .before .before .row .given .1) in
     let o = opens _ _ _ _ _ _ (c .before .before .before .before .before .before .before .before .before .before .before .before .before .before .before .before .pre .1) _ g (omega (arith, g .upto, c .before .before .before .before .before .before .before .before .before .if2 .left)) _ _ _ told (rw (c .before .before .before .row .given .1) at (c .before .before .before .before .before .before .before .start-line .ensures .1 .0)) (rw (c .before .before .before .row .given .1) at (c .before .before .before .before .before .before .before .start-line .ensures .1 .1)) in
-    skips _ _ _ _ _ _ (c .before .before .before .before .before .before .before .before .before .before .before .before .before .before .before .before .pre .1) (c .before .before .before .before .before .before .before .before .before .before .before .before .before .before .before .before .pre .0) o (c .before .before .before .before .before .before .before .before .before .before .before .before .before .lead-letters .ensures) _ (c .due-item .ensures _)
+    skips _ _ _ _ _ _ (c .before .before .before .before .before .before .before .before .before .before .before .before .before .before .before .before .pre .1) (c .before .before .before .before .before .before .before .before .before .before .before .before .before .before .before .before .pre .0) o (c .before .before .before .before .before .before .before .before .before .before .before .before .before .lead-letters .ensures) (omega arith) _ (c .due-item .ensures _)
 
 enum-known-r : tie.Need-enum-known-r Inv-loop μ-loop
 enum-known-r c = search needs
@@ -120,17 +121,19 @@ add-due-item : tie.Need-add-due-item Inv-loop μ-loop
 add-due-item c = omega (arith, c .before .before .before .before .before .before .before .before .before .before .before .before .before .before .before .before .pre .0 .few, c .before .before .before .before .before .before .before .before .before .if3 .taken)
 
 due-item-requires-2 : tie.Need-due-item-requires-2 Inv-loop μ-loop
-due-item-requires-2 c κs = (c .before .before .before .before .before .before .before .before .before .before .before .before .before .lead-letters .ensures .all, omega (arith, c .before .before .before .before .before .before .before .before .before .if3 .taken, c .before .before .before .before .before .before .before .before .before .before .before .before .before .before .before .before .pre .0 .few))
+due-item-requires-2 c κs = c .before .before .before .before .before .before .before .before .before .before .before .before .before .lead-letters .ensures .all
 
 loop-less-3 : tie.Need-loop-less-3 Inv-loop μ-loop
-loop-less-3 c = rw (c .before .before .before .before .before .before .before .before .before .before .before .if1 .left) (omega (arith, c .due-item2 .ensures [] .on, c .before .before .before .before .before .before .before .before .before .before .if3 .taken, c .before .before .before .before .before .before .before .before .before .before .before .before .before .before .before .before .before .pre .0 .few))
+loop-less-3 c =
+    rw (c .before .before .before .before .before .before .before .before .before .before .before .if1 .left)
+    (omega (arith, due-on _ _ (omega (arith, c .before .before .before .before .before .before .before .before .before .before .if3 .taken, c .before .before .before .before .before .before .before .before .before .before .before .before .before .before .before .before .before .pre .0 .few)) _ _ _ (c .due-item2 .ensures []), c .before .before .before .before .before .before .before .before .before .before .if3 .taken, c .before .before .before .before .before .before .before .before .before .before .before .before .before .before .before .before .before .pre .0 .few))
 
 loop-again-3 : tie.Need-loop-again-3 Inv-loop μ-loop
 loop-again-3 c =
     let g = inside _ _ _ _ _ _ _ _ (c .before .before .before .before .before .before .before .before .before .before .before .if1 .left) (c .before .before .before .before .before .before .before .before .before .before .before .before .loop .inv) in
     let told = sym (c .before .before .before .before .before .before .before .add-item .ensures .0) ∙ ap (stepTold _) (c .before .before .before .row2 .given .1) in
     let o = item-behind _ _ _ _ _ _ (c .before .before .before .before .before .before .before .before .before .before .before .before .before .before .before .before .before .pre .1) (c .before .before .before .before .before .before .before .before .before .before .before .before .before .before .before .before .before .pre .0) g (c .before .before .before .before .before .before .before .before .before .before .if3 .taken) _ _ _ told (rw (c .before .before .before .row2 .given .1) at (c .before .before .before .before .before .before .before .add-item .ensures .1 .0)) (rw (c .before .before .before .row2 .given .1) at (c .before .before .before .before .before .before .before .add-item .ensures .1 .1)) in
-    still-inside _ _ _ _ _ _ _ _ (c .before .before .before .before .before .before .before .before .before .before .before .if1 .left) (skips _ _ _ _ _ _ (c .before .before .before .before .before .before .before .before .before .before .before .before .before .before .before .before .before .pre .1) (c .before .before .before .before .before .before .before .before .before .before .before .before .before .before .before .before .before .pre .0) o (c .before .before .before .before .before .before .before .before .before .before .before .before .before .before .lead-letters .ensures) _ (c .due-item2 .ensures _))
+    still-inside _ _ _ _ _ _ _ _ (c .before .before .before .before .before .before .before .before .before .before .before .if1 .left) (skips _ _ _ _ _ _ (c .before .before .before .before .before .before .before .before .before .before .before .before .before .before .before .before .before .pre .1) (c .before .before .before .before .before .before .before .before .before .before .before .before .before .before .before .before .before .pre .0) o (c .before .before .before .before .before .before .before .before .before .before .before .before .before .before .lead-letters .ensures) (omega (arith, c .before .before .before .before .before .before .before .before .before .before .if3 .taken, c .before .before .before .before .before .before .before .before .before .before .before .before .before .before .before .before .before .pre .0 .few)) _ (c .due-item2 .ensures _))
 
 enum-known-r-2 : tie.Need-enum-known-r-2 Inv-loop μ-loop
 enum-known-r-2 c = search needs
