@@ -167,7 +167,7 @@ impl Timer {
 /// Rows of the longest tape for each second, in millions.
 fn speed(nanoseconds: f64) -> String {
     // a stage that shares the pass of the one before has no time of its own
-    if nanoseconds * 50.0 < MOST_ROWS as f64 {
+    if nanoseconds * 20.0 < MOST_ROWS as f64 {
         format!("{:>8}    ", "none")
     } else {
         format!("{:>8.1} mio", MOST_ROWS as f64 * 1_000.0 / nanoseconds)
