@@ -2,8 +2,9 @@
 ghost use mathlib.Core.Path.{_≡_};
 ghost use mathlib.Core.Bool.{cond};
 ghost use mathlib.Core.List.{[], _∷_};
-ghost use Prim.Native.Nat.{_+_, _-_, _≤_, _<_};
+ghost use Prim.Native.Nat.{_+_, _≤_, _<_, max};
 ghost use lib.ListN.{length, replicate};
+ghost use Rattle.io.specs.Digits.{digits, Fewest};
 ghost use Rattle.reading.specs.declared.Value.the-variants.{Dimension};
 ghost use Rattle.lines.specs.Text.{decimal, full, valueText, wordText, startText, countLine, refusalLine};
 ghost use Rattle.lines.specs.Answers.{closing};
@@ -49,22 +50,47 @@ pub fn put_many(line: &mut [u8], start: usize, n: usize, b: u8) -> usize
     at
 }
 
+// How many digits a number has in plain decimal.
+fn count_digits(v: u64) -> usize
+    ensures { λ r. ⌜ Fewest 10 1 v r ⌝ }
+{
+    let mut k = 1;
+    let mut rest = v / 10;
+    while 0 < rest {
+        rest = rest / 10;
+        k += 1;
+    }
+    k
+}
+
+// The last k digits of a number: the remainders by ten give them from the last to the first.
+fn put_digits(line: &mut [u8], at: usize, k: usize, v: u64) -> usize
+    requires { ⌜ at + k ≤ length (now line) ⌝ }
+    ensures { λ r. ⌜ Put (now (line .entry)) at (digits 10 k v) (now (line .exit)) r ⌝ }
+{
+    let mut rest = v;
+    let mut i = k;
+    while 0 < i {
+        i -= 1;
+        line[at + i] = 48 + (rest % 10) as u8;
+        rest = rest / 10;
+    }
+    at + k
+}
+
 // A number in plain decimal.
 fn put_decimal(line: &mut [u8], at: usize, v: u64) -> usize
     requires { ⌜ at + 20 ≤ length (now line) ⌝ }
     ensures put { λ r. ⌜ Put (now (line .entry)) at (decimal v) (now (line .exit)) r ⌝ }
     ensures end { λ r. ⌜ r ≤ at + 20 ⌝ }
 {
-    let mut digits = [0u8; 20];
-    let count = io::decimal(v, &mut digits);
-    put_all(line, at, &digits[..count])
+    put_digits(line, at, count_digits(v), v)
 }
 
-// How many of n are still missing.
-fn still(n: usize, count: usize) -> usize
-    ensures { λ r. ⌜ r ≡ n - count ⌝ }
+fn greater(a: usize, b: usize) -> usize
+    ensures { λ r. ⌜ r ≡ max a b ⌝ }
 {
-    if count < n { n - count } else { 0 }
+    if a < b { b } else { a }
 }
 
 // The same with zeros in front up to n digits.
@@ -73,10 +99,7 @@ fn put_full(line: &mut [u8], at: usize, n: u8, v: u64) -> usize
     ensures put { λ r. ⌜ Put (now (line .entry)) at (full n v) (now (line .exit)) r ⌝ }
     ensures end { λ r. ⌜ r ≤ at + n + 20 ⌝ }
 {
-    let mut digits = [0u8; 20];
-    let count = io::decimal(v, &mut digits);
-    let next = put_many(line, at, still(n as usize, count), 48);
-    put_all(line, next, &digits[..count])
+    put_digits(line, at, greater(n as usize, count_digits(v)), v)
 }
 
 // A minus before a negative number.
