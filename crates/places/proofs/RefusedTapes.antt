@@ -49,8 +49,8 @@ judged-low : (t : List ℕ) (n p : ℕ) → judged t ≡ refused n p → n ≤ 7
 unfolding judged
 judged-low t n p e =
     either-low (inLimit t) _ n p (limit-low t n p)
-    (either-low (refuseAt 5 (barred 5 t)) _ n p (stage-low 5 n p (barred 5 t) (omega arith))
-    (either-low (refuseAt 6 (barred 6 t)) _ n p (stage-low 6 n p (barred 6 t) (omega arith)) (stage-low 7 n p (scan Outside 0 t) (omega arith))))
+    (either-low (refuseAt 5 (barred 5 0 t)) _ n p (stage-low 5 n p (barred 5 0 t) (omega arith))
+    (either-low (refuseAt 6 (barred 6 0 t)) _ n p (stage-low 6 n p (barred 6 0 t) (omega arith)) (stage-low 7 n p (scan Outside 0 t) (omega arith))))
     e
 
 -- ---- the theorem

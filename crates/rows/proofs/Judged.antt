@@ -24,8 +24,8 @@ module _ (t : List ℕ) where
   pub passes-clean : Passes t → judged t ≡ taken tt
   unfolding judged
   passes-clean p =
-      let odd : barred 5 t ≡ Nowhere = lowest-none (λ b. eqb (entry b) 133) t 0 (every-map (λ b e. even-entry b .1 e) t (p .even)) in
-      let foreign : barred 6 t ≡ Nowhere =
+      let odd : barred 5 0 t ≡ Nowhere = lowest-none (λ b. eqb (entry b) 133) t 0 (every-map (λ b e. even-entry b .1 e) t (p .even)) in
+      let foreign : barred 6 0 t ≡ Nowhere =
       lowest-none (λ b. eqb (entry b) 134) t 0
       (every-map (λ b e. known-entry b (e .0) .1 (e .1)) t (every-both (λ b. T (even b)) (λ b. T (among (character b) characters)) t (p .even) (p .known))) in
       rw (le-ltb limit (length t) (p .short), odd, foreign, formed-scan (p .formed) 0)
@@ -47,8 +47,8 @@ module _ (t : List ℕ) where
   unfolding judged
   clean-passes e =
       let one = in-limit (ltb limit (length t)) _ e in
-      let two = found-none 5 (barred 5 t) _ (one .1) in
-      let three = found-none 6 (barred 6 t) _ (two .1) in
+      let two = found-none 5 (barred 5 0 t) _ (one .1) in
+      let three = found-none 6 (barred 6 0 t) _ (two .1) in
       let evens = every-map (λ b x. even-entry b .0 x) t (none-lowest (λ b. eqb (entry b) 133) t 0 (two .0)) in
       record {
         short = ltb-false limit (length t) (one .0);

@@ -83,7 +83,7 @@ module _ (s t : List ℕ) (all : Every (λ b. T (even b)) s) (d : Damaged s t) w
   unfolding judged
   damaged h k f =
       let same = d .length-kept in
-      let first : barred 5 t ≡ At k =
+      let first : barred 5 0 t ≡ At k =
       lowest-first (λ b. eqb (entry b) 133) t k (omega (arith, f .within)) (odd-entry _ (changed-odd _ _ (even-at k (f .within)) (f .changed)))
       (λ j g. rw (f .before j g) (even-entry _ .1 (even-at j (omega (arith, f .within))))) in
       rw (le-ltb limit (length t) (omega arith), first)

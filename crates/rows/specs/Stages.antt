@@ -21,9 +21,9 @@ unfoldable pub lowest : (ℕ → Bool) → ℕ → List ℕ → Found
 lowest f i [] = Nowhere
 lowest f i (b ∷ t) = cond (f b) (At i) (lowest f (suc i) t)
 
--- the lowest row whose table entry is the refusal n
-abbrev pub barred : ℕ → List ℕ → Found
-barred n t = lowest (λ b. eqb (entry b) (128 + n)) 0 t
+-- the lowest row, counted from i, whose table entry is the refusal n
+abbrev pub barred : ℕ → ℕ → List ℕ → Found
+barred n i t = lowest (λ b. eqb (entry b) (128 + n)) i t
 
 -- "(" opens; ")" outside is a fault
 abbrev pub outside : ℕ → ℕ → Step
@@ -68,11 +68,11 @@ inLimit t = cond (ltb limit (length t)) (refused 4 limit) (taken tt)
 
 -- 4, then 5, then 6, then 7; a stage starts only when the one before has passed the whole tape
 unfoldable pub judged : List ℕ → Answer (Unit {0})
-judged t = inLimit t >> refuseAt 5 (barred 5 t) >> refuseAt 6 (barred 6 t) >> refuseAt 7 (scan Outside 0 t)
+judged t = inLimit t >> refuseAt 5 (barred 5 0 t) >> refuseAt 6 (barred 6 0 t) >> refuseAt 7 (scan Outside 0 t)
 
 -- 5 and then 6 of the rows t, counted from i, and what is answered otherwise
 unfoldable pub rowsThen : ℕ → List ℕ → Answer (Unit {0}) → Answer (Unit {0})
-rowsThen i t otherwise = refuseAt 5 (lowest (λ b. eqb (entry b) (128 + 5)) i t) >> refuseAt 6 (lowest (λ b. eqb (entry b) (128 + 6)) i t) >> otherwise
+rowsThen i t otherwise = refuseAt 5 (barred 5 i t) >> refuseAt 6 (barred 6 i t) >> otherwise
 
 -- 5, 6 and 7 of the rows t, counted from i, where the scan of control-outs stands on a side
 abbrev pub judgedFrom : Side → ℕ → List ℕ → Answer (Unit {0})
