@@ -6,17 +6,16 @@ use native.Mathlib.Nat.{le-div-iff-mul-le}
 use native.Mathlib.Omega.{arith}
 use lib.ListN.{length, take, drop, length-take, take-append-drop}
 use borrow.Author.Tests.{le-leb}
-use Rattle.rows.specs.Answer.{Answer, taken, refused, valueOr, _>>=_}
+use Rattle.rows.specs.Answer.{taken, refused, valueOr}
 use Rattle.rows.specs.Kept.{KeptRow, keptAt, kept}
 use Rattle.shorthand.specs.declared.Format.{Format}
-use Rattle.reading.specs.Figures.{Behind, taking}
-use Rattle.reading.specs.Parse.{BlockRead, Entry, entry, blockAt, blocksAt, headAt}
+use Rattle.reading.specs.Figures.{taking}
+use Rattle.reading.specs.Parse.{Entry, blocksAt, headAt}
 use Rattle.reading.specs.Answers.{read}
-use Rattle.reading.proofs.BlockWalk.{advances}
-use Rattle.reading.proofs.OwnRows.{Left, block-behind, none-left, one-left, behind-head}
+use Rattle.reading.proofs.OwnRows.{Left, First, nothing, block, block-behind, none-left, one-left, first, behind-head}
 use Rattle.lines.specs.Listing.{blockLines}
 use Rattle.lines.specs.Pages.{lineRoom, endOf, pageBlocks, Paged, pageOf, pageIn}
-use Rattle.lines.proofs.Paging.{rising-at, lines-more}
+use Rattle.lines.proofs.Paging.{lines-more}
 
 module _ (f : Format) (t : List ℕ) where
   -- the first m of the blocks that are left, and those behind
@@ -24,34 +23,17 @@ module _ (f : Format) (t : List ℕ) where
   Turned m from es = (blocksAt m (length t) f from (keptAt t from) ≡ taken (take m es)) × Left f t (endOf from (take m es)) (drop m es)
 
   -- one block more than m
-  module _ (m : ℕ) (turn : (from : ℕ) (es : List Entry) → Left f t from es → Turned m from es) (from : ℕ) (es : List Entry) where
-    module _ (k : ℕ) (l : length (keptAt t from) ≤ suc k) (r : KeptRow) (u : List KeptRow) (q : keptAt t from ≡ r ∷ u) where
-      by-next : (b : Behind BlockRead) → blockAt (length t) f (keptAt t from) ≡ taken b
-          → (a : Answer (List Entry)) → blocksAt k (length t) f (b .value .lf + 1) (b .rest) ≡ a → (a >>= λ x. taken (entry from (b .value) ∷ x)) ≡ taken es → Turned (suc m) from es
-      by-next b i (refused x y) j e = let z : _≡_ {A = ℕ} 0 1 = cc in absurd (omega arith)
-      by-next b i (taken xs) j e =
-          let same = block-behind f t from b i in
-          let all : es ≡ entry from (b .value) ∷ xs = ap (valueOr []) (sym e) in
-          let less = advances f (length t) from (keptAt t from) b (rising-at t from) i .fewer in
-          let h = turn (b .value .lf + 1) xs (record { fuel = k; enough = rw (← same) (omega arith); come = rw same at j }) in
-          rw all (one-left f t m from r u q ∙ rw (i, same, h .0), h .1)
-
-      by-block : (a : Answer (Behind BlockRead)) → blockAt (length t) f (keptAt t from) ≡ a
-          → (a >>= λ b. blocksAt k (length t) f (b .value .lf + 1) (b .rest) >>= λ x. taken (entry from (b .value) ∷ x)) ≡ taken es → Turned (suc m) from es
-      by-block (refused x y) i e = let z : _≡_ {A = ℕ} 0 1 = cc in absurd (omega arith)
-      by-block (taken b) i e = by-next b i (blocksAt k (length t) f (b .value .lf + 1) (b .rest)) refl e
-
-    by-rows : (rs : List KeptRow) → keptAt t from ≡ rs → (k : ℕ) → length (keptAt t from) ≤ k → blocksAt k (length t) f from (keptAt t from) ≡ taken es → Turned (suc m) from es
-    by-rows [] q k l e =
-        let none : es ≡ [] = ap (valueOr []) (sym e ∙ none-left f t k from q) in
-        rw none (none-left f t (suc m) from q, record { fuel = k; enough = l; come = none-left f t k from q })
-    by-rows (r ∷ u) q zero l e = let some = ap length q in absurd (omega arith)
-    by-rows (r ∷ u) q (suc k) l e = by-block k l r u q (blockAt (length t) f (keptAt t from)) refl (sym (one-left f t k from r u q) ∙ e)
+  more : (m : ℕ) → ((from : ℕ) (es : List Entry) → Left f t from es → Turned m from es) → (from : ℕ) (es : List Entry) → Left f t from es → First f t from es → Turned (suc m) from es
+  more m turn from es g (nothing q e) = rw e (none-left f t (suc m) from q, rw e at g)
+  more m turn from es g (block r u q b i xs e h) =
+      let next = turn (b .value .lf + 1) xs h in
+      let same = block-behind f t from b i in
+      rw e (one-left f t m from r u q ∙ rw (i, same, next .0), next .1)
 
   turned : (m from : ℕ) (es : List Entry) → Left f t from es → Turned m from es
   unfolding blocksAt
   turned zero from es g = (refl, g)
-  turned (suc m) from es g = by-rows m (λ i xs h. turned m i xs h) from es (keptAt t from) refl (g .fuel) (g .enough) (g .come)
+  turned (suc m) from es g = more m (λ i xs h. turned m i xs h) from es g (first f t from es g)
 
   -- ---- pages
 

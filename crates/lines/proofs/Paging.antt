@@ -4,13 +4,12 @@ use mathlib.Core.Bool.{Bool, true, false}
 use mathlib.Core.List.{List, [], _∷_, _++_, append-assoc, append-nil}
 use Prim.Native.Nat.{ℕ, zero, suc, _+_, _-_, _*_, _≤_, _<_, zero-le}
 use native.Mathlib.Nat.{le-refl, mul-le-mul-right, suc-mul}
-use native.Mathlib.Decide.{decLe}
 use native.Mathlib.Omega.{arith}
-use lib.ListN.{length, getD, drop, length-append, length-drop, drop-of-length-le, replicate}
+use lib.ListN.{length, getD, drop, length-append, replicate}
 use lib.Seq.{sets-eq, take-append-seam}
 use Rattle.rows.specs.Answer.{Answer, taken, refused, void, valueOr, _>>=_}
 use Rattle.rows.proofs.OneAnswer.{Case, takes, refuses, one}
-use Rattle.rows.specs.Kept.{KeptRow, keptFrom, keptAt}
+use Rattle.rows.specs.Kept.{KeptRow}
 use Rattle.shorthand.specs.declared.Item.{Item}
 use Rattle.shorthand.specs.declared.Format.{Format}
 use Rattle.shorthand.specs.Layout.{emptyFormat, blank, itemsOf}
@@ -28,7 +27,6 @@ use Rattle.reading.proofs.BlockWalk.{before, before-none, before-more, Advances
 use Rattle.reading.proofs.Gathering.{prepend, prepend-none}
 use Rattle.reading.proofs.ItemSteps.{resumed, words-turn, words-over}
 use Rattle.reading.proofs.Numbered.{taken-value, refused-void}
-use Rattle.reading.proofs.Places.{kept-rising}
 use Rattle.reading.proofs.Started.{begun, start-refused}
 use Rattle.lines.specs.declared.Page.{Page}
 use Rattle.lines.specs.declared.Sheet.{Sheet}
@@ -52,15 +50,6 @@ lines-more n (e ∷ es) fs = ap (λ t. blockLine n (e .block) ++ t) (lines-more 
 end-more : (from : ℕ) (es : List Entry) (e : Entry) → endOf from (es ++ (e ∷ [])) ≡ e .to
 end-more from [] e = refl
 end-more from (x ∷ es) e = end-more (x .to) es e
-
--- the places of the rows from any place on rise
-pub rising-at : (t : List ℕ) (i : ℕ) → Rising (length t) i (keptAt t i)
-unfolding keptFrom
-rising-at t i =
-    elim (decLe i (length t)) [
-      | yes l ↦ kept-rising false i (drop i t) (rw (length-drop i t) (omega arith))
-      | no l ↦ rw (drop-of-length-le t {i = i} (omega arith)) over
-    ]
 
 -- ---- an item
 

@@ -19,9 +19,10 @@ use Rattle.reading.specs.Answers.{nowhere, read}
 use Rattle.reading.specs.declared.Part.{Part}
 use Rattle.reading.specs.Record.{emptyBlock}
 use Rattle.reading.specs.Front.{blockOnly, sizeOf, partIn, blockIn, hasBlock}
-use Rattle.reading.proofs.BlockWalk.{program-blocks, program-refused, read-clean, read-refused}
+use Rattle.reading.proofs.BlockWalk.{advances, program-blocks, program-refused, read-clean, read-refused}
 use Rattle.reading.proofs.ReadBlocks.{Last, last, before}
 use Rattle.reading.proofs.Sound.{block-rows, head-rows}
+use Rattle.reading.proofs.Places.{rising-at}
 
 -- ---- the rows behind a block
 
@@ -63,6 +64,35 @@ module _ (f : Format) (t : List ℕ) where
     unfolding blocksAt
     one-left r u q = rw q
 
+  -- no row is left and no block, or the first block of those that are left
+  pub data First (from : ℕ) (es : List Entry) : Type 0 where
+    nothing : keptAt t from ≡ [] → es ≡ [] → First from es
+    block : (r : KeptRow) (u : List KeptRow) → keptAt t from ≡ r ∷ u → (b : Behind BlockRead) → blockAt (length t) f (keptAt t from) ≡ taken b
+        → (xs : List Entry) → es ≡ entry from (b .value) ∷ xs → Left (b .value .lf + 1) xs → First from es
+
+  module _ (from : ℕ) (es : List Entry) where
+    module _ (k : ℕ) (l : length (keptAt t from) ≤ suc k) (r : KeptRow) (u : List KeptRow) (q : keptAt t from ≡ r ∷ u) where
+      by-next : (b : Behind BlockRead) → blockAt (length t) f (keptAt t from) ≡ taken b
+          → (a : Answer (List Entry)) → blocksAt k (length t) f (b .value .lf + 1) (b .rest) ≡ a → (a >>= λ x. taken (entry from (b .value) ∷ x)) ≡ taken es → First from es
+      by-next b i (refused x y) j e = let z : _≡_ {A = ℕ} 0 1 = cc in absurd (omega arith)
+      by-next b i (taken xs) j e =
+          let same = block-behind from b i in
+          let less = advances f (length t) from (keptAt t from) b (rising-at t from) i .fewer in
+          block r u q b i xs (ap (valueOr []) (sym e)) (record { fuel = k; enough = rw (← same) (omega arith); come = rw same at j })
+
+      by-block : (a : Answer (Behind BlockRead)) → blockAt (length t) f (keptAt t from) ≡ a
+          → (a >>= λ b. blocksAt k (length t) f (b .value .lf + 1) (b .rest) >>= λ x. taken (entry from (b .value) ∷ x)) ≡ taken es → First from es
+      by-block (refused x y) i e = let z : _≡_ {A = ℕ} 0 1 = cc in absurd (omega arith)
+      by-block (taken b) i e = by-next b i (blocksAt k (length t) f (b .value .lf + 1) (b .rest)) refl e
+
+    by-rows : (rs : List KeptRow) → keptAt t from ≡ rs → (k : ℕ) → length (keptAt t from) ≤ k → blocksAt k (length t) f from (keptAt t from) ≡ taken es → First from es
+    by-rows [] q k l e = nothing q (ap (valueOr []) (sym e ∙ none-left k from q))
+    by-rows (r ∷ u) q zero l e = let some = ap length q in absurd (omega arith)
+    by-rows (r ∷ u) q (suc k) l e = by-block k l r u q (blockAt (length t) f (keptAt t from)) refl (sym (one-left k from r u q) ∙ e)
+
+    pub first : Left from es → First from es
+    first g = by-rows (keptAt t from) refl (g .fuel) (g .enough) (g .come)
+
   -- all blocks of an accepted tape stand behind its head
   pub behind-head : (es : List Entry) → read f t ≡ taken es → (lf : ℕ) (rest : List KeptRow) → headAt (length t) (kept t) ≡ taking lf rest → Left (lf + 1) es
   behind-head es e lf rest h =
@@ -80,37 +110,23 @@ module _ (f : Format) (t : List ℕ) where
   abbrev Own : List Entry → ℕ → Type 0
   Own es n = blockOnly (blockAt (length t) f (keptAt t (getD es n nowhere .from))) ≡ taken (getD es n nowhere .block)
 
-  module _ (k from : ℕ) (turn : (i : ℕ) (es : List Entry) → blocksAt k (length t) f i (keptAt t i) ≡ taken es → (n : ℕ) → n < length es → Own es n) (es : List Entry) where
-    by-next : (b : Behind BlockRead) → blockAt (length t) f (keptAt t from) ≡ taken b → (a : Answer (List Entry)) → blocksAt k (length t) f (b .value .lf + 1) (b .rest) ≡ a
-        → (a >>= λ x. taken (entry from (b .value) ∷ x)) ≡ taken es → (n : ℕ) → n < length es → Own es n
-    by-next b i (refused x y) j e n l = let z : _≡_ {A = ℕ} 0 1 = cc in absurd (omega arith)
-    by-next b i (taken xs) j e n l =
-        let all : es ≡ entry from (b .value) ∷ xs = ap (valueOr []) (sym e) in
-        rw all (each n (rw all at l))
-      where
-        each : (n : ℕ) → n < suc (length xs) → Own (entry from (b .value) ∷ xs) n
-        each zero h = ap blockOnly i
-        each (suc n) h = turn (b .value .lf + 1) xs (rw (block-behind from b i) at j) n (le-of-suc-le-suc h)
+  own-first : {from : ℕ} {es : List Entry} → First from es → 0 < length es → Own es 0
+  own-first (nothing q e) l = absurd (not-suc-le-zero (rw e at l))
+  own-first (block r u q b i xs e h) l = rw e (ap blockOnly i)
 
-    by-block : (a : Answer (Behind BlockRead)) → blockAt (length t) f (keptAt t from) ≡ a
-        → (a >>= λ b. blocksAt k (length t) f (b .value .lf + 1) (b .rest) >>= λ x. taken (entry from (b .value) ∷ x)) ≡ taken es → (n : ℕ) → n < length es → Own es n
-    by-block (refused x y) i e n l = let z : _≡_ {A = ℕ} 0 1 = cc in absurd (omega arith)
-    by-block (taken b) i e n l = by-next b i (blocksAt k (length t) f (b .value .lf + 1) (b .rest)) refl e n l
+  own-next : (n : ℕ) → ((i : ℕ) (xs : List Entry) → Left i xs → n < length xs → Own xs n) → {from : ℕ} {es : List Entry} → First from es → suc n < length es → Own es (suc n)
+  own-next n turn (nothing q e) l = absurd (not-suc-le-zero (rw e at l))
+  own-next n turn (block r u q b i xs e h) l = rw e (turn (b .value .lf + 1) xs h (le-of-suc-le-suc (rw e at l)))
 
-    by-rows : (rs : List KeptRow) → keptAt t from ≡ rs → blocksAt (suc k) (length t) f from (keptAt t from) ≡ taken es → (n : ℕ) → n < length es → Own es n
-    by-rows [] q e n l = let none : es ≡ [] = ap (valueOr []) (sym e ∙ none-left (suc k) from q) in absurd (not-suc-le-zero (rw none at l))
-    by-rows (r ∷ u) q e n l = by-block (blockAt (length t) f (keptAt t from)) refl (sym (one-left k from r u q) ∙ e) n l
-
-  own-left : (k from : ℕ) (es : List Entry) → blocksAt k (length t) f from (keptAt t from) ≡ taken es → (n : ℕ) → n < length es → Own es n
-  unfolding blocksAt
-  own-left zero from es e n l = let none : es ≡ [] = ap (valueOr []) (sym e) in absurd (not-suc-le-zero (rw none at l))
-  own-left (suc k) from es e n l = by-rows k from (λ i xs. own-left k i xs) es (keptAt t from) refl e n l
+  own-left : (n from : ℕ) (es : List Entry) → Left from es → n < length es → Own es n
+  own-left zero from es g l = own-first (first from es g) l
+  own-left (suc n) from es g l = own-next n (λ i xs. own-left n i xs) (first from es g) l
 
   pub own-block : (es : List Entry) → read f t ≡ taken es → (n : ℕ) → n < length es → blockOnly (blockAt (length t) f (keptAt t (getD es n nowhere .from))) ≡ taken (getD es n nowhere .block)
   own-block es e n l = by (headAt (length t) (kept t)) refl
     where
       by : (a : Answer (Behind ℕ)) → headAt (length t) (kept t) ≡ a → Own es n
-      by (taken h) q = let g = behind-head es e (h .value) (h .rest) q in own-left (g .fuel) (h .value + 1) es (g .come) n l
+      by (taken h) q = own-left n (h .value + 1) es (behind-head es e (h .value) (h .rest) q) l
       by (refused m p) q = headless (judged t) refl
         where
           headless : (a : Answer (Unit {0})) → judged t ≡ a → Own es n

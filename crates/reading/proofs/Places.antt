@@ -5,11 +5,12 @@ use mathlib.Core.Bool.{Bool, true, false, cond}
 use mathlib.Core.List.{List, [], _∷_, _++_}
 use native.Mathlib.Nat.{le-refl, le-trans, le-of-suc-le-suc}
 use native.Mathlib.Numerals.{add-one}
+use native.Mathlib.Decide.{decLe}
 use native.Mathlib.Omega.{arith}
-use lib.ListN.{length, getD}
+use lib.ListN.{length, getD, drop, length-drop, drop-of-length-le}
 use Rattle.rows.specs.Row.{character}
 use Rattle.rows.specs.Answer.{taken}
-use Rattle.rows.specs.Kept.{KeptRow, within, stays, keptFrom, kept}
+use Rattle.rows.specs.Kept.{KeptRow, within, stays, keptFrom, keptAt, kept}
 use Rattle.shorthand.specs.declared.Format.{Format}
 use Rattle.reading.specs.Front.{Rising, over, rise}
 use Rattle.reading.specs.Figures.{Behind}
@@ -32,6 +33,15 @@ kept-rising w i (b ∷ u) {n} l = go (stays w (character b)) (kept-rising (withi
     go : (x : Bool) {rest : List KeptRow} → Rising n (suc i) rest → Rising n i (cond x (record { place = i; char = character b } ∷ rest) rest)
     go true h = rise (le-refl i) (omega arith) h
     go false h = rising-lower (omega arith) h
+
+-- the places of the rows from any place on rise
+pub rising-at : (t : List ℕ) (i : ℕ) → Rising (length t) i (keptAt t i)
+unfolding keptFrom
+rising-at t i =
+    elim (decLe i (length t)) [
+      | yes l ↦ kept-rising false i (drop i t) (rw (length-drop i t) (omega arith))
+      | no l ↦ rw (drop-of-length-le t {i = i} (omega arith)) over
+    ]
 
 -- rows that end at the place p stand from i on, below n, and those behind them from p on
 pub last-rising : {n i p : ℕ} {s : List KeptRow} (rest : List KeptRow) → Last p s → Rising n i (s ++ rest) → (i ≤ p) × (p < n) × Rising n (suc p) rest

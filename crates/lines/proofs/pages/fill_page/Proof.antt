@@ -12,9 +12,10 @@ use Rattle.reading.proofs.DueItems.{due-on}
 use Rattle.reading.proofs.Fetched.{fetched}
 use Rattle.reading.proofs.InBlock.{over}
 use Rattle.reading.proofs.ItemSteps.{widths-at}
+use Rattle.reading.proofs.Places.{rising-at}
 use Rattle.lines.specs.Steps.{stepTold}
 use Rattle.lines.proofs.Puts.{put-length}
-use Rattle.lines.proofs.Paging.{Along, inside, still-inside, between, as-long, rising-at, none-yet, says-refused, page-full, tape-over, start-fits, opens, opens-refused, line-fits, skips, item-stops, item-behind, item-refused, end-refused, lf-within, closes}
+use Rattle.lines.proofs.Paging.{Along, inside, still-inside, between, as-long, none-yet, says-refused, page-full, tape-over, start-fits, opens, opens-refused, line-fits, skips, item-stops, item-behind, item-refused, end-refused, lf-within, closes}
 use Rattle.lines.proofs.pages.fill_page.Statement.{statement}
 use Rattle.lines.proofs.pages.fill_page.Tie as tie
 
