@@ -2,14 +2,15 @@
 use mathlib.Core.Path.{_≡_, refl, sym, ap, subst, _∙_}
 use mathlib.Core.Bool.{Bool, true, false, cond}
 use mathlib.Core.List.{List, [], _∷_}
+use mathlib.Core.Logic.{_⊎_, inl, inr}
 use Prim.Native.Nat.{ℕ, zero, suc, _+_, _-_, _≤_, _<_}
 use native.Mathlib.Nat.{le-refl}
 use native.Mathlib.Decide.{decLt}
 use native.Mathlib.Omega.{arith}
-use lib.Dec.{ltb}
+use lib.Dec.{eqb, ltb}
 use lib.ListN.{length, set, drop, replicate, length-set, length-replicate, getD-replicate}
-use lib.Seq.{getD-set-same, getD-set-other}
-use borrow.Author.Tests.{ne-eqb, ltb-true, ltb-false}
+use lib.Seq.{getD-set-same, getD-set-other, ext-getD}
+use borrow.Author.Tests.{eqb-true, eqb-false, ne-eqb, ltb-true, ltb-false}
 use Rattle.rows.specs.Answer.{Answer}
 use Rattle.rows.specs.Kept.{KeptRow}
 use Rattle.shorthand.specs.declared.Format.{Format}
@@ -63,6 +64,33 @@ module _ (f : Format) where
               | yes j ↦ getD-set-other leads (letterAt f k) (letterAt f i) k 0 (apart i k j m) ∙ g .own i j
               | no j ↦ let e : i ≡ k = omega (arith, l, j) in rw e (getD-set-same leads (letterAt f k) k 0 (omega (arith, b, g .all)))
             ]
+
+-- one possible result: a Format's letters lead in one way
+module _ (f : Format) where
+  abbrev Sought : ℕ → ℕ → Type 0
+  Sought c k = ((i : ℕ) × (i < k) × (letterAt f i ≡ c)) ⊎ ((i : ℕ) → i < k → letterAt f i ≡ c → ⊥)
+
+  -- whether a character is the letter of one of the first k items
+  sought : (c k : ℕ) → Sought c k
+  sought c zero = inr (λ i l e. absurd (omega (arith, l)))
+  sought c (suc k) = further k (eqb (letterAt f k) c) refl (sought c k)
+    where
+      further : (k : ℕ) (b : Bool) → eqb (letterAt f k) c ≡ b → Sought c k → Sought c (suc k)
+      further k true q s = inl (k, omega arith, eqb-true (letterAt f k) c q)
+      further k false q (inl s) = inl (s .0, omega (arith, s .1), s .2)
+      further k false q (inr n) =
+          inr (λ i l e. elim (decLt i k) [
+            | yes j ↦ n i j e
+            | no j ↦ (let z : i ≡ k = omega (arith, l, j) in eqb-false (letterAt f k) c q (rw z at e))
+          ])
+
+  module _ {a b : List ℕ} (g : Leads f a) (h : Leads f b) where
+    lead-one : (c : ℕ) → c < 256 → Sought c (f .count) → leadOf a c ≡ leadOf b c
+    lead-one c l (inl s) = rw (← s .2) (g .own (s .0) (s .1) ∙ sym (h .own (s .0) (s .1)))
+    lead-one c l (inr n) = g .others c l n ∙ sym (h .others c l n)
+
+    pub one-leads : a ≡ b
+    one-leads = ext-getD 0 a b (sym (g .all) ∙ h .all) (λ c l. lead-one c (omega (arith, l, g .all)) (sought c (f .count)))
 
 -- ---- the item that is due at a front
 
