@@ -1,0 +1,57 @@
+-- `shorthand::kinds::make_dimension` meets its contract: each arm is one case of `dimensioned`.
+use borrow.Author.Needs.{needs}
+use Rattle.shorthand.proofs.kinds.make_dimension.Statement.{statement}
+use Rattle.shorthand.proofs.kinds.make_dimension.Tie as tie
+
+enum-told : tie.Need-enum-told
+enum-told c = search needs
+
+enum-told-2 : tie.Need-enum-told-2
+enum-told-2 c = search needs
+
+enum-known-digits : tie.Need-enum-known-digits
+enum-known-digits c = search needs
+
+two-digits-requires : tie.Need-two-digits-requires
+two-digits-requires c κs = search needs
+
+enum-known-digits-2 : tie.Need-enum-known-digits-2
+enum-known-digits-2 c = search needs
+
+three-digits-requires : tie.Need-three-digits-requires
+three-digits-requires c κs = search needs
+
+enum-told-3 : tie.Need-enum-told-3
+enum-told-3 c = search needs
+
+returns : tie.Need-returns
+returns c = search needs
+
+returns-2 : tie.Need-returns-2
+returns-2 c = search needs
+
+returns-3 : tie.Need-returns-3
+returns-3 c = rw (c .before .before .digits .given .1) (c .two-digits .ensures)
+
+returns-4 : tie.Need-returns-4
+returns-4 c = rw (c .before .before .digits2 .given .1) (c .three-digits .ensures)
+
+returns-5 : tie.Need-returns-5
+returns-5 c = search needs
+
+pub make-dimension-spec : {M : Type 1} → statement M
+make-dimension-spec =
+    tie.close
+    (tie.spec
+    enum-told
+    enum-told-2
+    enum-known-digits
+    two-digits-requires
+    enum-known-digits-2
+    three-digits-requires
+    enum-told-3
+    returns
+    returns-2
+    returns-3
+    returns-4
+    returns-5)

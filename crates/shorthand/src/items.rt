@@ -1,0 +1,180 @@
+// How an item stands at a place of the text: the word items, and N.
+ghost use mathlib.Core.Path.{_≡_};
+ghost use Prim.Native.Nat.{_+_, _≤_};
+ghost use lib.ListN.{length, drop};
+ghost use Rattle.shorthand.specs.Edition.{sequenceMost, rank, allowed};
+ghost use Rattle.shorthand.specs.Stand.{lettered, named, dotFits, stand, standN};
+ghost use Rattle.shorthand.specs.Parse.{settle};
+ghost use Rattle.shorthand.specs.Places.{found, foundN, Onward, OnwardN};
+use crate::Dots;
+use crate::FORM;
+use crate::Found;
+use crate::Item;
+use crate::Making;
+use crate::Sequence;
+use crate::Single;
+use crate::kinds::make_kind;
+use crate::kinds::one_digit;
+use crate::pieces::has_dot;
+use crate::pieces::is_within;
+use crate::pieces::read_digits;
+use crate::pieces::read_mark;
+
+// M's place in the order of the items, after which none is due.
+const LAST: u8 = 22;
+
+// The places of A to Z in the order of the items, from 1; 0 where no item has the letter.
+const RANKS: [u8; 26] = [
+    14,
+    15,
+    16,
+    17,
+    18,
+    19,
+    1,
+    0,
+    11,
+    12,
+    13,
+    0,
+    22,
+    0,
+    0,
+    8,
+    9,
+    10,
+    20,
+    21,
+    5,
+    6,
+    7,
+    2,
+    3,
+    4,
+];
+
+pub(crate) fn rank_of(letter: u8) -> u8
+    ensures { λ r. ⌜ r ≡ rank letter ⌝ }
+{
+    if !is_within(b'A', b'Z', letter) {
+        return 0;
+    }
+    let i = (letter - b'A') as usize;
+    RANKS[i]
+}
+
+fn is_allowed(edition: u32, letter: u8) -> bool
+    ensures { λ r. ⌜ r ≡ allowed edition letter ⌝ }
+{
+    match letter {
+        b'I' | b'J' | b'K' => edition == FORM,
+        _ => true,
+    }
+}
+
+fn figures_at(edition: u32, letter: u8, text: &[u8], at: usize) -> Found
+    requires { ⌜ at ≤ length (now text) ⌝ }
+    ensures stands { λ r. ⌜ found (now (text .entry)) r ≡ lettered edition letter (drop at (now (text .entry))) ⌝ }
+    ensures after { λ r. ⌜ Onward (now (text .entry)) at r ⌝ }
+{
+    let marked = read_mark(text, at);
+    let mark = marked.mark;
+    let run = read_digits(text, marked.after);
+    let digits = run.digits;
+    let after = run.after;
+    match make_kind(edition, letter, mark, digits) {
+        Making::Made(kind) => Found::Whole(Item { letter, kind }, after),
+        Making::More => {
+            // Further bytes are digits of this item only where the text ends with it.
+            if after < text.len() {
+                Found::Unfit
+            } else {
+                Found::Short
+            }
+        }
+        Making::Wrong => Found::Unfit,
+    }
+}
+
+fn letter_at(edition: u32, last: u8, text: &[u8], at: usize) -> Found
+    ensures stands { λ r. ⌜ found (now (text .entry)) r ≡ named edition last (drop at (now (text .entry))) ⌝ }
+    ensures after { λ r. ⌜ Onward (now (text .entry)) (at + 1) r ⌝ }
+{
+    if text.len() <= at {
+        if last < LAST {
+            return Found::Short;
+        }
+        return Found::Unfit;
+    }
+    let letter = text[at];
+    if rank_of(letter) <= last {
+        return Found::Unfit;
+    }
+    if !is_allowed(edition, letter) {
+        return Found::Unfit;
+    }
+    figures_at(edition, letter, text, at + 1)
+}
+
+fn dot_fits(edition: u32, dots: Dots, dot: bool) -> bool
+    ensures { λ r. ⌜ r ≡ dotFits edition dots dot ⌝ }
+{
+    match dots {
+        Dots::Open => edition == FORM || dot,
+        Dots::Dotted => dot,
+        Dots::Plainly => !dot,
+    }
+}
+
+pub(crate) fn settle_dots(dot: bool) -> Dots
+    ensures { λ r. ⌜ r ≡ settle dot ⌝ }
+{
+    if dot { Dots::Dotted } else { Dots::Plainly }
+}
+
+// The word item at a place, where the last before it had this rank.
+pub(crate) fn item_at(edition: u32, dots: Dots, last: u8, text: &[u8], at: usize) -> Found
+    ensures stands { λ r. ⌜ found (now (text .entry)) r ≡ stand edition dots last (drop at (now (text .entry))) ⌝ }
+    ensures after { λ r. ⌜ Onward (now (text .entry)) (at + 1) r ⌝ }
+{
+    let dot = has_dot(text, at);
+    if !dot_fits(edition, dots, dot) {
+        return Found::Unfit;
+    }
+    if dot {
+        return letter_at(edition, last, text, at + 1);
+    }
+    letter_at(edition, last, text, at)
+}
+
+fn sequence_most(edition: u32) -> u8
+    ensures { λ r. ⌜ r ≡ sequenceMost edition ⌝ }
+{
+    if edition == FORM { 9 } else { 3 }
+}
+
+pub(crate) fn sequence_at(edition: u32, text: &[u8]) -> Sequence
+    ensures stands { λ r. ⌜ foundN (now (text .entry)) r ≡ standN edition (now (text .entry)) ⌝ }
+    ensures after { λ r. ⌜ OnwardN (now (text .entry)) r ⌝ }
+{
+    if text.len() == 0 {
+        return Sequence::Short;
+    }
+    if text[0] != b'N' {
+        return Sequence::Unfit;
+    }
+    let run = read_digits(text, 1);
+    let digits = run.digits;
+    let after = run.after;
+    match one_digit(3, sequence_most(edition), digits) {
+        Single::Digit(d) => Sequence::Whole(d, after),
+        Single::More => {
+            if after < text.len() {
+                Sequence::Unfit
+            } else {
+                Sequence::Short
+            }
+        }
+        Single::Wrong => Sequence::Unfit,
+    }
+}

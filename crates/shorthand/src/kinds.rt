@@ -1,0 +1,130 @@
+// What an item's mark and digits make.
+ghost use mathlib.Core.Path.{_≡_};
+ghost use Rattle.shorthand.specs.Lawful.{classOf};
+ghost use Rattle.shorthand.specs.Stand.{oneDigit, unmarked, made, figured, twoDigits, threeDigits, dimensioned, kindMade};
+ghost use Rattle.shorthand.specs.Places.{digitsIn, single, mapped, making};
+use crate::Digits;
+use crate::FORM;
+use crate::Figures;
+use crate::Kind;
+use crate::Making;
+use crate::Mark;
+use crate::Missing;
+use crate::Single;
+use crate::pieces::is_within;
+
+pub(crate) fn one_digit(low: u8, high: u8, digits: Digits) -> Single
+    ensures { λ r. ⌜ single r ≡ oneDigit low high (λ d. d) (digitsIn digits) ⌝ }
+{
+    match digits {
+        Digits::Empty => Single::More,
+        Digits::One(d) => {
+            if is_within(low, high, d) {
+                Single::Digit(d)
+            } else {
+                Single::Wrong
+            }
+        }
+        Digits::Two(_, _) => Single::Wrong,
+        Digits::Three(_, _, _) => Single::Wrong,
+        Digits::Many => Single::Wrong,
+    }
+}
+
+// Only a dimension has a mark.
+fn one_unmarked(mark: Mark, low: u8, high: u8, digits: Digits) -> Single
+    ensures { λ r. ⌜ single r ≡ unmarked mark (oneDigit low high (λ d. d) (digitsIn digits)) ⌝ }
+{
+    match mark {
+        Mark::Unmarked => one_digit(low, high, digits),
+        Mark::Plus => Single::Wrong,
+        Mark::Delta => Single::Wrong,
+    }
+}
+
+fn as_plain(s: Single) -> Making
+    ensures { λ r. ⌜ making r ≡ mapped Kind.Plain (single s) ⌝ }
+{
+    match s {
+        Single::Digit(d) => Making::Made(Kind::Plain(d)),
+        Single::More => Making::More,
+        Single::Wrong => Making::Wrong,
+    }
+}
+
+fn as_speed(s: Single) -> Making
+    ensures { λ r. ⌜ making r ≡ mapped Kind.Speed (single s) ⌝ }
+{
+    match s {
+        Single::Digit(d) => Making::Made(Kind::Speed(d)),
+        Single::More => Making::More,
+        Single::Wrong => Making::Wrong,
+    }
+}
+
+fn as_dimension(edition: u32, mark: Mark, missing: Missing, before: u8, after: u8) -> Making
+    ensures { λ r. ⌜ making r ≡ made (figured edition mark missing before after) ⌝ }
+{
+    Making::Made(Kind::Dimension(Figures {
+        mark,
+        before,
+        after,
+        missing,
+        bare: edition == FORM,
+    }))
+}
+
+// `00` makes no item, but in 2539 a third digit may.
+fn two_digits(edition: u32, mark: Mark, a: u8, b: u8) -> Making
+    ensures { λ r. ⌜ making r ≡ twoDigits edition mark a b ⌝ }
+{
+    if a == 0 && b == 0 {
+        if edition == FORM {
+            return Making::More;
+        }
+        return Making::Wrong;
+    }
+    as_dimension(edition, mark, Missing::Nothing, a, b)
+}
+
+// Both outer digits zero, or neither, is refused, because `040` could mean either end.
+fn three_digits(edition: u32, mark: Mark, x: u8, y: u8, z: u8) -> Making
+    ensures { λ r. ⌜ making r ≡ threeDigits edition mark x y z ⌝ }
+{
+    if edition != FORM {
+        return Making::Wrong;
+    }
+    if x == 0 {
+        if z == 0 {
+            return Making::Wrong;
+        }
+        return as_dimension(edition, mark, Missing::Leading, y, z);
+    }
+    if z == 0 {
+        return as_dimension(edition, mark, Missing::Trailing, x, y);
+    }
+    Making::Wrong
+}
+
+fn make_dimension(edition: u32, mark: Mark, digits: Digits) -> Making
+    ensures { λ r. ⌜ making r ≡ dimensioned edition mark (digitsIn digits) ⌝ }
+{
+    match digits {
+        Digits::Empty => Making::More,
+        Digits::One(_) => Making::More,
+        Digits::Two(a, b) => two_digits(edition, mark, a, b),
+        Digits::Three(x, y, z) => three_digits(edition, mark, x, y, z),
+        Digits::Many => Making::Wrong,
+    }
+}
+
+pub(crate) fn make_kind(edition: u32, letter: u8, mark: Mark, digits: Digits) -> Making
+    ensures { λ r. ⌜ making r ≡ kindMade edition (classOf letter) mark (digitsIn digits) ⌝ }
+{
+    match letter {
+        b'G' | b'M' => as_plain(one_unmarked(mark, 2, 2, digits)),
+        b'T' => as_plain(one_unmarked(mark, 1, 9, digits)),
+        b'F' | b'S' => as_speed(one_unmarked(mark, 3, 5, digits)),
+        _ => make_dimension(edition, mark, digits),
+    }
+}
