@@ -4,13 +4,18 @@ use mathlib.Core.Path.{_≡_, refl, _∙_, ap}
 use mathlib.Core.Logic.{_⊎_, inl, inr, ⊎-elim}
 use mathlib.Core.Bool.{Bool, true, false, cond}
 use mathlib.Core.List.{List, [], _∷_}
+use native.Mathlib.Omega.{arith}
 use lib.Dec.{eqb}
 use borrow.Author.Tests.{ne-eqb}
+use types.Run.{OneOf}
+use denote.Enum.Declared.{tagOf}
+use Rattle.shorthand.proofs.Digits.{the-type}
 use Rattle.shorthand.specs.declared.Mark.{Mark}
 use Rattle.shorthand.specs.declared.Mark.the-variants.{Unmarked, Plus, Delta}
 use Rattle.shorthand.specs.declared.Kind.{Kind}
 use Rattle.shorthand.specs.declared.Kind.the-variants.{Plain, Speed}
-use Rattle.shorthand.specs.declared.Digits.the-variants.{Empty, Many}
+use Rattle.shorthand.specs.declared.Digits.{Digits}
+use Rattle.shorthand.specs.declared.Digits.the-variants.{Empty, One, Two, Three, Many}
 use Rattle.shorthand.specs.Edition.{later}
 use Rattle.shorthand.specs.Lawful.{digitIn, Class, plain, speed, dimension, classOf}
 use Rattle.shorthand.specs.Stand.{Made, made, more, wrong, oneDigit, twoDigits, dimensioned, unmarked, kindMade}
@@ -45,6 +50,14 @@ kind-enough e speed m ds = ap (unmarked m) (one-enough 3 5 Speed ds)
 kind-enough e dimension m ds = dimension-enough e m ds
 
 -- ---- an item with one digit
+
+-- two digits or more make nothing
+pub several-wrong : {A : Type 0} (lo hi : ℕ) (k : ℕ → A) (ds : Digits) → OneOf (2 ∷ 3 ∷ 4 ∷ []) (tagOf the-type ds) → oneDigit lo hi k (digitsIn ds) ≡ wrong
+several-wrong lo hi k Empty h = absurd (⊎-elim (λ e. omega arith) (λ r. ⊎-elim (λ e. omega arith) (λ e. omega arith) r) h)
+several-wrong lo hi k (One d) h = absurd (⊎-elim (λ e. omega arith) (λ r. ⊎-elim (λ e. omega arith) (λ e. omega arith) r) h)
+several-wrong lo hi k (Two a b) h = refl
+several-wrong lo hi k (Three a b c) h = refl
+several-wrong lo hi k Many h = refl
 
 one-mapped : {A : Type 0} (k : ℕ → A) (lo hi : ℕ) (ds : List ℕ) → mapped k (oneDigit lo hi (λ d. d) ds) ≡ oneDigit lo hi k ds
 one-mapped k lo hi [] = refl

@@ -1,13 +1,14 @@
 -- How items stand, read at places of the text.
 use Prim.Native.Nat.{ℕ, zero, suc, _+_, _≤_, _<_, suc-le-suc}
 use mathlib.Core.Path.{_≡_, refl}
-use mathlib.Core.Bool.{Bool, true, false, _&&_, cond, false≢true, and-eq-true-iff}
+use mathlib.Core.Bool.{Bool, true, false, _&&_, _||_, cond, false≢true, and-eq-true-iff}
 use mathlib.Core.List.{List, [], _∷_}
-use native.Mathlib.Nat.{not-suc-le-zero}
+use native.Mathlib.Nat.{not-suc-le-zero, zero-add}
 use native.Mathlib.Omega.{arith}
 use lib.ListN.{length, getD, drop}
+use lib.Dec.{eqb, leb}
 use lib.Seq.{drop-nil}
-use borrow.Author.Tests.{eq-eqb, ne-eqb, ltb-true}
+use borrow.Author.Tests.{eq-eqb, ne-eqb, le-leb, lt-leb, leb-true, ltb-true}
 use Rattle.shorthand.specs.declared.Item.{Item}
 use Rattle.shorthand.specs.declared.Marked.{Marked}
 use Rattle.shorthand.specs.declared.Run.{Run}
@@ -15,11 +16,11 @@ use Rattle.shorthand.specs.declared.Digits.the-variants.{Empty}
 use Rattle.shorthand.specs.declared.Dots.{Dots}
 use Rattle.shorthand.specs.declared.Found.{Found}
 use Rattle.shorthand.specs.declared.Making.{Making}
-use Rattle.shorthand.specs.declared.Single.{Single}
-use Rattle.shorthand.specs.Edition.{sequenceMost, rank, due, allowed, anyDue}
-use Rattle.shorthand.specs.Lawful.{classOf}
+use Rattle.shorthand.specs.declared.Sequence.{Sequence}
+use Rattle.shorthand.specs.Edition.{form, later, sequenceMost, rank, due, allowed, anyDue}
+use Rattle.shorthand.specs.Lawful.{digitIn, classOf}
 use Rattle.shorthand.specs.Stand.{starts, without, digitsOf, afterDigits, markOf, afterMark, Made, made, more, wrong, oneDigit, kindMade, Stand, whole, short, unfit, closed, lettered, named, dotFits, stand, standN}
-use Rattle.shorthand.specs.Places.{digitsIn, addedAll, Begins, single, making, Onward}
+use Rattle.shorthand.specs.Places.{digitsIn, addedAll, Begins, making, Onward, Opens}
 use Rattle.shorthand.proofs.Runs.{from-place}
 use Rattle.shorthand.proofs.Makes.{one-enough, kind-enough}
 
@@ -56,23 +57,81 @@ pub letter-reads : (e c : ℕ) (t : List ℕ) (at : ℕ) (m : Marked) (r : Run) 
     → lettered e c (drop at t) ≡ closed (λ x. record { letter = c; kind = x }) (making k) (drop (r .after) t)
 letter-reads e c t at m r k p b q d h = rw (h, p, q, d .there, b .there, kind-enough)
 
-pub sequence-reads : (e : ℕ) (t : List ℕ) (r : Run) (s : Single) → 0 < length t → getD t 0 0 ≡ 78
+-- ---- N
+
+pub sequence-reads : (t : List ℕ) (r : Run) → 0 < length t → getD t 0 0 ≡ 78
     → r .digits ≡ addedAll Empty (digitsOf (drop 1 t)) → Begins t 1 (afterDigits (drop 1 t)) (r .after)
-    → single s ≡ oneDigit 3 (sequenceMost e) (λ d. d) (digitsIn (r .digits))
-    → standN e t ≡ closed (λ d. d) (single s) (drop (r .after) t)
+    → standN form t ≡ closed (λ d. d) (oneDigit 3 9 (λ d. d) (digitsIn (r .digits))) (drop (r .after) t)
 unfolding standN
-sequence-reads e [] r s l n q d h = absurd (not-suc-le-zero l)
-sequence-reads e (c ∷ t) r s l n q d h = rw (eq-eqb c 78 n, h, q, d .there, one-enough)
+sequence-reads [] r l n q d = absurd (not-suc-le-zero l)
+sequence-reads (c ∷ t) r l n q d = rw (eq-eqb c 78 n, q, d .there, one-enough)
 
-pub sequence-missing : (e : ℕ) (t : List ℕ) → length t ≡ 0 → standN e t ≡ short
+sequence-missing : (t : List ℕ) → length t ≡ 0 → standN form t ≡ short
 unfolding standN
-sequence-missing e [] h = refl
-sequence-missing e (c ∷ t) h = absurd (omega arith)
+sequence-missing [] h = refl
+sequence-missing (c ∷ t) h = absurd (omega arith)
 
-pub sequence-other : (e : ℕ) (t : List ℕ) → 0 < length t → (getD t 0 0 ≡ 78 → ⊥) → standN e t ≡ unfit
+pub sequence-other : (t : List ℕ) → 0 < length t → (getD t 0 0 ≡ 78 → ⊥) → standN form t ≡ unfit
 unfolding standN
-sequence-other e [] l n = absurd (not-suc-le-zero l)
-sequence-other e (c ∷ t) l n = rw (ne-eqb c 78 n)
+sequence-other [] l n = absurd (not-suc-le-zero l)
+sequence-other (c ∷ t) l n = rw (ne-eqb c 78 n)
+
+-- an N item that is in form, in an edition: the later one takes it, the other where its digit is at most 3
+abbrev taking : Bool → Stand ℕ → Stand ℕ
+taking late (whole d rest) = cond (late || leb d 3) (whole d rest) unfit
+taking late short = short
+taking late unfit = unfit
+
+digit-taken : (late : Bool) (d : ℕ) (rest : List ℕ)
+    → closed (λ n. n) (cond (digitIn 3 (cond late 9 3) d) (made d) wrong) rest ≡ taking late (closed (λ n. n) (cond (digitIn 3 9 d) (made d) wrong) rest)
+digit-taken true d rest = go (digitIn 3 9 d)
+  where
+    go : (b : Bool) → closed (λ n. n) (cond b (made d) wrong) rest ≡ taking true (closed (λ n. n) (cond b (made d) wrong) rest)
+    go true = refl
+    go false = refl
+digit-taken false d rest = go (leb 3 d) (leb d 9) (leb d 3) refl (λ h. le-leb d 9 (omega (arith, leb-true d 3 h)))
+  where
+    go : (a b x : Bool) → leb d 3 ≡ x → (x ≡ true → b ≡ true)
+        → closed (λ n. n) (cond (a && x) (made d) wrong) rest ≡ taking false (closed (λ n. n) (cond (a && b) (made d) wrong) rest)
+    go false b x e h = refl
+    go true true true e h = rw e
+    go true true false e h = rw e
+    go true false true e h = absurd (false≢true (h refl))
+    go true false false e h = refl
+
+digits-taken : (late : Bool) (ds rest : List ℕ)
+    → closed (λ n. n) (oneDigit 3 (cond late 9 3) (λ n. n) ds) rest ≡ taking late (closed (λ n. n) (oneDigit 3 9 (λ n. n) ds) rest)
+digits-taken late [] [] = refl
+digits-taken late [] (b ∷ rest) = refl
+digits-taken late (d ∷ []) rest = digit-taken late d rest
+digits-taken late (d ∷ (x ∷ ds)) rest = refl
+
+pub sequence-taken : (e : ℕ) (t : List ℕ) → standN e t ≡ taking (later e) (standN form t)
+unfolding standN
+sequence-taken e [] = refl
+sequence-taken e (c ∷ t) = go (eqb c 78)
+  where
+    go : (b : Bool)
+        → cond b (closed (λ n. n) (oneDigit 3 (sequenceMost e) (λ n. n) (digitsOf t)) (afterDigits t)) unfit
+        ≡ taking (later e) (cond b (closed (λ n. n) (oneDigit 3 9 (λ n. n) (digitsOf t)) (afterDigits t)) unfit)
+    go true = digits-taken (later e) (digitsOf t) (afterDigits t)
+    go false = refl
+
+module _ (e : ℕ) (t : List ℕ) where
+  pub opens-short : standN form t ≡ short → Opens e t (Sequence.Refused 2 (length t))
+  opens-short s = λ k. rw (sequence-taken e t, s, zero-add)
+
+  pub opens-missing : length t ≡ 0 → Opens e t (Sequence.Refused 2 0)
+  opens-missing h = rw h at (opens-short (sequence-missing t h))
+
+  pub opens-unfit : standN form t ≡ unfit → Opens e t (Sequence.Refused 2 0)
+  opens-unfit s = λ k. rw (sequence-taken e t, s)
+
+  pub opens-beyond : {d : ℕ} {rest : List ℕ} → standN form t ≡ whole d rest → (e ≡ 2539 → ⊥) → 3 < d → Opens e t (Sequence.Refused 3 0)
+  opens-beyond {d} s l h = λ k. rw (sequence-taken e t, s, ne-eqb e 2539 l, lt-leb d 3 h)
+
+  pub opens-whole : {d : ℕ} (n : ℕ) → standN form t ≡ whole d (drop n t) → later e || leb d 3 ≡ true → n ≤ length t → Opens e t (Sequence.Whole d n)
+  opens-whole n s h w = (rw (sequence-taken e t, s, h), w)
 
 -- ---- a whole item is due
 

@@ -4,7 +4,7 @@ use mathlib.Core.Path.{_≡_, refl, sym, _∙_, ap}
 use mathlib.Core.Logic.{_⊎_, inl, inr, ⊎-elim}
 use mathlib.Core.Bool.{Bool, true, false}
 use mathlib.Core.List.{List, [], _∷_, _++_}
-use native.Mathlib.Nat.{zero-add, sub-zero}
+use native.Mathlib.Nat.{sub-zero}
 use native.Mathlib.Numerals.{add-one}
 use native.Mathlib.Omega.{arith}
 use lib.ListN.{length, getD, drop, length-drop, length-append, drop-of-length-le}
@@ -19,9 +19,9 @@ use Rattle.shorthand.specs.declared.Dots.{Dots}
 use Rattle.shorthand.specs.declared.Dots.the-variants.{Open}
 use Rattle.shorthand.specs.Layout.{blank, formatOf, emptyFormat}
 use Rattle.shorthand.specs.Edition.{form, known, rank}
-use Rattle.shorthand.specs.Stand.{whole, starts, stand, standN}
+use Rattle.shorthand.specs.Stand.{whole, starts, stand}
 use Rattle.shorthand.specs.Parse.{beyond, settle, isDotted, afterStar, leads, itemsFrom, parsed}
-use Rattle.shorthand.specs.Places.{found, foundN, Onward, OnwardN, Says, pushed}
+use Rattle.shorthand.specs.Places.{found, Onward, Opens, Says, pushed}
 use Rattle.shorthand.proofs.Padded.{padded-set}
 use Rattle.shorthand.proofs.Ranks.{rank-most}
 use Rattle.shorthand.proofs.Runs.{from-place}
@@ -117,16 +117,14 @@ parsed-unknown e t h = rw (ne-eqb e 1057 (λ p. h (inl p)), ne-eqb e 2539 (λ p.
 -- the answer by the N item as it is found
 abbrev pub Opened : ℕ → List ℕ → Sequence → Type 0
 Opened e t (Sequence.Whole seq next) = parsed e t ≡ itemsFrom (length t) e seq Open 0 [] next (drop next t)
-Opened e t Sequence.Short = parsed e t ≡ refused 2 (length t)
-Opened e t Sequence.Unfit = parsed e t ≡ refused (beyond (standN form t)) 0
+Opened e t (Sequence.Refused number place) = parsed e t ≡ refused number place
 
-pub parsed-opens : (e : ℕ) (t : List ℕ) → known e ≡ true → (r : Sequence) → foundN t r ≡ standN e t → OnwardN t r → Opened e t r
+pub parsed-opens : (e : ℕ) (t : List ℕ) → known e ≡ true → (r : Sequence) → Opens e t r → Opened e t r
 unfolding parsed
-parsed-opens e t k (Sequence.Whole seq next) s o =
-    let place : length t - length (drop next t) ≡ next = rw length-drop (omega arith) in
-    rw (k, ← s, place)
-parsed-opens e t k Sequence.Short s o = rw (k, ← s, zero-add)
-parsed-opens e t k Sequence.Unfit s o = rw (k, ← s)
+parsed-opens e t k (Sequence.Whole seq next) o =
+    let place : length t - length (drop next t) ≡ next = rw length-drop (omega (arith, o .1)) in
+    rw (k, o .0, place)
+parsed-opens e t k (Sequence.Refused number place) o = rw k (o _)
 
 -- what a Parsed says of one answer it says of an equal one, as its two parts
 pub says-of : (r : Parsed) {a b : Answer Format} → a ≡ b → Says r b → (told (r .outcome) ≡ void a) × (r .format ≡ valueOr emptyFormat a)

@@ -1,10 +1,10 @@
 -- What the answers of the code's private functions say: a place of the text stands for the text from there on.
-use Prim.Native.Nat.{ℕ, _+_, _≤_, _<_, max}
+use Prim.Native.Nat.{ℕ, _+_, _≤_, max}
 use mathlib.Core.Path.{_≡_}
 use mathlib.Core.Bool.{Bool}
 use mathlib.Core.List.{List, [], _∷_}
 use lib.ListN.{length, drop, set}
-use Rattle.rows.specs.Answer.{Answer, told, void, valueOr}
+use Rattle.rows.specs.Answer.{Answer, refused, told, void, valueOr}
 use Rattle.shorthand.specs.declared.Kind.{Kind}
 use Rattle.shorthand.specs.declared.Item.{Item}
 use Rattle.shorthand.specs.declared.Format.{Format}
@@ -16,7 +16,9 @@ use Rattle.shorthand.specs.declared.Making.{Making}
 use Rattle.shorthand.specs.declared.Found.{Found}
 use Rattle.shorthand.specs.declared.Sequence.{Sequence}
 use Rattle.shorthand.specs.Layout.{emptyFormat}
-use Rattle.shorthand.specs.Stand.{Made, made, more, wrong, Stand, whole, short, unfit}
+use Rattle.shorthand.specs.Edition.{form}
+use Rattle.shorthand.specs.Stand.{Made, made, more, wrong, Stand, whole, short, unfit, standN}
+use Rattle.shorthand.specs.Parse.{leads}
 
 -- ---- digits
 
@@ -71,21 +73,16 @@ found t (Found.Whole it n) = whole it (drop n t)
 found t Found.Short = short
 found t Found.Unfit = unfit
 
-abbrev pub foundN : List ℕ → Sequence → Stand ℕ
-foundN t (Sequence.Whole d n) = whole d (drop n t)
-foundN t Sequence.Short = short
-foundN t Sequence.Unfit = unfit
-
 -- a whole item ends at the place from or behind it, and within t
 abbrev pub Onward : List ℕ → ℕ → Found → Type 0
 Onward t from (Found.Whole it n) = (from ≤ n) × (n ≤ length t)
 Onward t from Found.Short = Unit {0}
 Onward t from Found.Unfit = Unit {0}
 
-abbrev pub OnwardN : List ℕ → Sequence → Type 0
-OnwardN t (Sequence.Whole d n) = (0 < n) × (n ≤ length t)
-OnwardN t Sequence.Short = Unit {0}
-OnwardN t Sequence.Unfit = Unit {0}
+-- the N item in the text t: its digit, with the place behind it, or the refusal that it leads to
+abbrev pub Opens : ℕ → List ℕ → Sequence → Type 0
+Opens e t (Sequence.Whole d n) = (standN e t ≡ whole d (drop n t)) × (n ≤ length t)
+Opens e t (Sequence.Refused number place) = (k : ℕ → List ℕ → Answer Format) → leads (standN e t) (standN form t) 0 t k ≡ refused number place
 
 -- ---- the Format beside the outcome
 

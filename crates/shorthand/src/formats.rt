@@ -7,7 +7,7 @@ ghost use lib.ListN.{length, drop};
 ghost use Rattle.rows.specs.Answer.{refused};
 ghost use Rattle.shorthand.specs.Layout.{formatOf};
 ghost use Rattle.shorthand.specs.Edition.{form};
-ghost use Rattle.shorthand.specs.Stand.{stand, standN};
+ghost use Rattle.shorthand.specs.Stand.{stand};
 ghost use Rattle.shorthand.specs.Parse.{beyond, afterStar, itemsFrom};
 ghost use Rattle.shorthand.specs.Places.{Says, pushed};
 use crate::Dots;
@@ -17,10 +17,8 @@ use crate::Found;
 use crate::Item;
 use crate::Kind;
 use crate::Parsed;
-use crate::Sequence;
 use crate::items::item_at;
 use crate::items::rank_of;
-use crate::items::sequence_at;
 use crate::items::settle_dots;
 use crate::pieces::has_dot;
 use rows::Checked;
@@ -69,16 +67,6 @@ fn refuse_item(dots: Dots, last: u8, text: &[u8], at: usize) -> Parsed
         Found::Whole(_, _) => refuse(3, at),
         Found::Short => refuse(3, at),
         Found::Unfit => refuse(2, at),
-    }
-}
-
-pub(crate) fn refuse_sequence(text: &[u8]) -> Parsed
-    ensures { λ r. ⌜ Says r (refused (beyond (standN form (now (text .entry)))) 0) ⌝ }
-{
-    match sequence_at(FORM, text) {
-        Sequence::Whole(_, _) => refuse(3, 0),
-        Sequence::Short => refuse(3, 0),
-        Sequence::Unfit => refuse(2, 0),
     }
 }
 

@@ -2,19 +2,18 @@
 ghost use mathlib.Core.Path.{_≡_};
 ghost use Prim.Native.Nat.{_+_, _≤_};
 ghost use lib.ListN.{length, drop};
-ghost use Rattle.shorthand.specs.Edition.{sequenceMost, rank, allowed};
-ghost use Rattle.shorthand.specs.Stand.{lettered, named, dotFits, stand, standN};
+ghost use Rattle.shorthand.specs.Edition.{rank, allowed};
+ghost use Rattle.shorthand.specs.Stand.{lettered, named, dotFits, stand};
 ghost use Rattle.shorthand.specs.Parse.{settle};
-ghost use Rattle.shorthand.specs.Places.{found, foundN, Onward, OnwardN};
+ghost use Rattle.shorthand.specs.Places.{found, Onward, Opens};
+use crate::Digits;
 use crate::Dots;
 use crate::FORM;
 use crate::Found;
 use crate::Item;
 use crate::Making;
 use crate::Sequence;
-use crate::Single;
 use crate::kinds::make_kind;
-use crate::kinds::one_digit;
 use crate::pieces::has_dot;
 use crate::pieces::is_within;
 use crate::pieces::read_digits;
@@ -147,34 +146,37 @@ pub(crate) fn item_at(edition: u32, dots: Dots, last: u8, text: &[u8], at: usize
     letter_at(edition, last, text, at)
 }
 
-fn sequence_most(edition: u32) -> u8
-    ensures { λ r. ⌜ r ≡ sequenceMost edition ⌝ }
-{
-    if edition == FORM { 9 } else { 3 }
-}
-
+// The N item at the front of the text: in form first, and then in the edition.
 pub(crate) fn sequence_at(edition: u32, text: &[u8]) -> Sequence
-    ensures stands { λ r. ⌜ foundN (now (text .entry)) r ≡ standN edition (now (text .entry)) ⌝ }
-    ensures after { λ r. ⌜ OnwardN (now (text .entry)) r ⌝ }
+    ensures { λ r. ⌜ Opens edition (now (text .entry)) r ⌝ }
 {
     if text.len() == 0 {
-        return Sequence::Short;
+        return Sequence::Refused(2, 0);
     }
     if text[0] != b'N' {
-        return Sequence::Unfit;
+        return Sequence::Refused(2, 0);
     }
     let run = read_digits(text, 1);
     let digits = run.digits;
     let after = run.after;
-    match one_digit(3, sequence_most(edition), digits) {
-        Single::Digit(d) => Sequence::Whole(d, after),
-        Single::More => {
+    match digits {
+        Digits::Empty => {
             if after < text.len() {
-                Sequence::Unfit
+                Sequence::Refused(2, 0)
             } else {
-                Sequence::Short
+                Sequence::Refused(2, text.len())
             }
         }
-        Single::Wrong => Sequence::Unfit,
+        Digits::One(d) => {
+            if !is_within(3, 9, d) {
+                return Sequence::Refused(2, 0);
+            }
+            // N4 to N9 are in form, and past mending in 1057.
+            if edition != FORM && 3 < d {
+                return Sequence::Refused(3, 0);
+            }
+            Sequence::Whole(d, after)
+        }
+        _ => Sequence::Refused(2, 0),
     }
 }

@@ -13,7 +13,7 @@ use crate::Missing;
 use crate::Single;
 use crate::pieces::is_within;
 
-pub(crate) fn one_digit(low: u8, high: u8, digits: Digits) -> Single
+fn one_digit(low: u8, high: u8, digits: Digits) -> Single
     ensures { λ r. ⌜ single r ≡ oneDigit low high (λ d. d) (digitsIn digits) ⌝ }
 {
     match digits {

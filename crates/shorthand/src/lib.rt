@@ -11,7 +11,6 @@ mod pieces;
 
 use formats::read_items;
 use formats::refuse;
-use formats::refuse_sequence;
 use items::sequence_at;
 use rows::Checked;
 
@@ -112,11 +111,10 @@ enum Found {
     Unfit,
 }
 
-// The same of the N item.
+// The digits of N's numbers, with the place after the N item; or its refusal, by number and place.
 enum Sequence {
     Whole(u8, usize),
-    Short,
-    Unfit,
+    Refused(u32, usize),
 }
 
 // The later edition: what it can't mend is out of form.
@@ -130,8 +128,7 @@ pub fn parse(edition: u32, text: &[u8]) -> Parsed
     match edition {
         1057 | 2539 => match sequence_at(edition, text) {
             Sequence::Whole(sequence, next) => read_items(edition, sequence, text, next),
-            Sequence::Short => refuse(2, text.len()),
-            Sequence::Unfit => refuse_sequence(text),
+            Sequence::Refused(number, place) => refuse(number, place),
         },
         _ => refuse(1, 0),
     }

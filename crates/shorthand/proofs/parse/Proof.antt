@@ -5,7 +5,7 @@ use Rattle.shorthand.proofs.parse.Statement.{statement}
 use Rattle.shorthand.proofs.parse.Tie as tie
 
 opened : (c : tie.After-sequence-at) → Opened (c .before .before .before .args .edition) (c .before .before .before .args .text .now) (c .sequence-at .result)
-opened c = parsed-opens _ _ (known-is (c .before .match .keys1)) (c .sequence-at .result) (c .sequence-at .ensures .0) (c .sequence-at .ensures .1)
+opened c = parsed-opens _ _ (known-is (c .before .match .keys1)) (c .sequence-at .result) (c .sequence-at .ensures)
 
 sequence-at-requires : tie.Need-sequence-at-requires
 sequence-at-requires c κs = search needs
@@ -16,17 +16,11 @@ enum-known-sequence c = search needs
 read-items-requires : tie.Need-read-items-requires
 read-items-requires c κs = search needs
 
-enum-told : tie.Need-enum-told
-enum-told c = search needs
+enum-known-number : tie.Need-enum-known-number
+enum-known-number c = search needs
 
 refuse-requires : tie.Need-refuse-requires
 refuse-requires c κs = search needs
-
-enum-told-2 : tie.Need-enum-told-2
-enum-told-2 c = search needs
-
-refuse-sequence-requires : tie.Need-refuse-sequence-requires
-refuse-sequence-requires c κs = search needs
 
 refuse-requires-2 : tie.Need-refuse-requires-2
 refuse-requires-2 c κs = search needs
@@ -35,13 +29,10 @@ returns : tie.Need-returns
 returns c = says-of (c .read-items .result) (rw (c .before .before .sequence .given .1) at (opened (c .before .before .before .before))) (c .read-items .ensures)
 
 returns-2 : tie.Need-returns-2
-returns-2 c = says-of (c .refuse .result) (rw (c .before .enum-told .given .1) at (opened (c .before .before .before))) (c .refuse .ensures)
+returns-2 c = says-of (c .refuse .result) (rw (c .before .before .number .given .1) at (opened (c .before .before .before .before))) (c .refuse .ensures)
 
 returns-3 : tie.Need-returns-3
-returns-3 c = says-of (c .refuse-sequence .result) (rw (c .before .enum-told2 .given .1) at (opened (c .before .before .before))) (c .refuse-sequence .ensures)
-
-returns-4 : tie.Need-returns-4
-returns-4 c = says-of (c .refuse2 .result) (parsed-unknown _ _ (c .before .match .rest .1)) (c .refuse2 .ensures)
+returns-3 c = says-of (c .refuse2 .result) (parsed-unknown _ _ (c .before .match .rest .1)) (c .refuse2 .ensures)
 
 pub parse-spec : {M : Type 1} → statement M
 parse-spec =
@@ -50,12 +41,9 @@ parse-spec =
     sequence-at-requires
     enum-known-sequence
     read-items-requires
-    enum-told
+    enum-known-number
     refuse-requires
-    enum-told-2
-    refuse-sequence-requires
     refuse-requires-2
     returns
     returns-2
-    returns-3
-    returns-4)
+    returns-3)

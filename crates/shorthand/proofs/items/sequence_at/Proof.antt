@@ -1,62 +1,79 @@
 -- `shorthand::items::sequence_at` meets its contract: the N item by its letter, and then as its digits are read at a place.
-use mathlib.Core.Path.{sym, _≡_}
+use mathlib.Core.Path.{_≡_, _∙_}
+use mathlib.Core.Logic.{⊎-elim}
 use native.Mathlib.Omega.{arith}
 use lib.ListN.{drop, drop-of-length-le}
+use borrow.Author.Tests.{not-true, not-false, ne-eqb, le-leb, ltb-true, ltb-false}
 use borrow.Author.Needs.{needs}
-use Rattle.shorthand.specs.Places.{single}
-use Rattle.shorthand.specs.Stand.{standN, closed}
-use Rattle.shorthand.proofs.Stands.{sequence-missing, sequence-other, sequence-reads}
+use Rattle.shorthand.specs.Edition.{form}
+use Rattle.shorthand.specs.Places.{digitsIn}
+use Rattle.shorthand.specs.Stand.{oneDigit, whole, standN, closed}
+use Rattle.shorthand.proofs.Makes.{several-wrong}
+use Rattle.shorthand.proofs.Stands.{sequence-other, sequence-reads, opens-short, opens-missing, opens-unfit, opens-beyond, opens-whole}
 use Rattle.shorthand.proofs.Runs.{from-place}
 use Rattle.shorthand.proofs.items.sequence_at.Statement.{statement}
 use Rattle.shorthand.proofs.items.sequence_at.Tie as tie
 
-read : (c : tie.After-one-digit)
-    → let a = c .before .before .before .before .before .before .before .args in
-    standN (a .edition) (a .text .now) ≡ closed (λ d. d) (single (c .one-digit .result)) (drop (c .before .before .read-digits .result .after) (a .text .now))
+read : (c : tie.After-read-digits)
+    → let t = c .before .before .before .before .before .args .text .now in
+    let run = c .read-digits .result in
+    standN form t ≡ closed (λ d. d) (oneDigit 3 9 (λ d. d) (digitsIn (run .digits))) (drop (run .after) t)
 read c =
-    let a = c .before .before .before .before .before .before .before .args in
-    let run = c .before .before .read-digits in
-    sequence-reads (a .edition) (a .text .now) (run .result) (c .one-digit .result) (omega arith) (c .before .before .before .if2 .left)
-    (run .ensures .0) (run .ensures .1) (rw (← (c .before .sequence-most .ensures)) (c .one-digit .ensures))
+    let t = c .before .before .before .before .before .args .text .now in
+    sequence-reads t (c .read-digits .result) (omega arith) (c .before .if2 .left) (c .read-digits .ensures .0) (c .read-digits .ensures .1)
+
+-- a digit from 3 to 9
+digit : (c : tie.Else4)
+    → let read = c .before .before .before .before .before in
+    let t = read .before .before .before .before .before .args .text .now in
+    standN form t ≡ whole (c .before .before .before .digits .given .0 .0) (drop (read .read-digits .result .after) t)
+digit c =
+    let within = c .before .is-within in
+    read (c .before .before .before .before .before) ∙ rw (c .before .before .before .digits .given .1, ← (within .ensures), not-false (within .result) (c .if4 .left))
 
 returns : tie.Need-returns
-returns c = (sym (sequence-missing _ _ (c .if1 .taken)), tt)
+returns c = opens-missing _ _ (c .if1 .taken)
 
 shared-slice-read-if2 : tie.Need-shared-slice-read-if2
 shared-slice-read-if2 c = search needs
 
 returns-2 : tie.Need-returns-2
-returns-2 c = (sym (sequence-other _ _ (omega arith) (c .if2 .taken)), tt)
+returns-2 c = opens-unfit _ _ (sequence-other _ (omega arith) (c .if2 .taken))
 
 read-digits-requires : tie.Need-read-digits-requires
 read-digits-requires c κs = search needs
 
-sequence-most-requires : tie.Need-sequence-most-requires
-sequence-most-requires c κs = search needs
-
-one-digit-requires : tie.Need-one-digit-requires
-one-digit-requires c κs = search needs
-
-enum-known-d : tie.Need-enum-known-d
-enum-known-d c = search needs
-
 enum-told : tie.Need-enum-told
 enum-told c = search needs
 
-enum-told-2 : tie.Need-enum-told-2
-enum-told-2 c = search needs
+enum-known-digits : tie.Need-enum-known-digits
+enum-known-digits c = search needs
+
+is-within-requires : tie.Need-is-within-requires
+is-within-requires c κs = search needs
 
 returns-3 : tie.Need-returns-3
-returns-3 c = (rw (read (c .before .before .before), c .before .d .given .1), omega arith)
+returns-3 c =
+    let within = c .before .is-within in
+    opens-unfit _ _ (read (c .before .before .before .before .before) ∙ rw (c .before .before .before .digits .given .1, ← (within .ensures), not-true (within .result) (c .if4 .taken)))
 
 returns-4 : tie.Need-returns-4
-returns-4 c = (rw (read (c .before .before .before), c .before .enum-told .given .1, from-place _ _ (c .if3 .taken)), tt)
+returns-4 c = opens-beyond _ _ (digit (c .before .before)) (c .before .if5 .taken) (ltb-true 3 _ (c .if6 .taken))
 
 returns-5 : tie.Need-returns-5
-returns-5 c = (rw (read (c .before .before .before), c .before .enum-told .given .1, drop-of-length-le _ (c .if3 .left)), tt)
+returns-5 c = opens-unfit _ _ (read (c .before .before .before) ∙ rw (c .before .enum-told .given .1, from-place _ _ (c .if3 .taken)))
 
 returns-6 : tie.Need-returns-6
-returns-6 c = (rw (read (c .before .before), c .enum-told2 .given .1), tt)
+returns-6 c = opens-short _ _ (read (c .before .before .before) ∙ rw (c .before .enum-told .given .1, drop-of-length-le _ (c .if3 .left)))
+
+returns-7 : tie.Need-returns-7
+returns-7 c =
+    opens-whole _ _ _ (digit (c .before))
+    (⊎-elim (λ w. rw (ne-eqb _ _ (w .0 .taken), le-leb _ 3 (ltb-false 3 _ (w .1 .left)))) (λ w. rw (w .left)) (c .if5 .came))
+    (omega arith)
+
+returns-8 : tie.Need-returns-8
+returns-8 c = opens-unfit _ _ (read (c .before) ∙ rw (several-wrong 3 9 (λ d. d) _ (c .match .keys3)))
 
 pub sequence-at-spec : {M : Type 1} → statement M
 sequence-at-spec =
@@ -66,12 +83,12 @@ sequence-at-spec =
     shared-slice-read-if2
     returns-2
     read-digits-requires
-    sequence-most-requires
-    one-digit-requires
-    enum-known-d
     enum-told
-    enum-told-2
+    enum-known-digits
+    is-within-requires
     returns-3
     returns-4
     returns-5
-    returns-6)
+    returns-6
+    returns-7
+    returns-8)
