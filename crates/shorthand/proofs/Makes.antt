@@ -1,25 +1,25 @@
 -- What digits make: it goes by the first three and by there being more, and by the letter's class.
 use Prim.Native.Nat.{ℕ}
-use mathlib.Core.Path.{_≡_, refl, _∙_, ap}
+use mathlib.Core.Path.{_≡_, refl, ap}
 use mathlib.Core.Logic.{_⊎_, inl, inr, ⊎-elim}
-use mathlib.Core.Bool.{Bool, true, false, cond}
+use mathlib.Core.Bool.{true, cond}
 use mathlib.Core.List.{List, [], _∷_}
 use native.Mathlib.Omega.{arith}
 use lib.Dec.{eqb}
 use borrow.Author.Tests.{ne-eqb}
 use types.Run.{OneOf}
 use denote.Enum.Declared.{tagOf}
-use Rattle.shorthand.proofs.Digits.{the-type}
+use Rattle.shorthand.proofs.Digits as digits
+use Rattle.shorthand.proofs.Mark as mark
 use Rattle.shorthand.specs.declared.Mark.{Mark}
 use Rattle.shorthand.specs.declared.Mark.the-variants.{Unmarked, Plus, Delta}
-use Rattle.shorthand.specs.declared.Kind.{Kind}
 use Rattle.shorthand.specs.declared.Kind.the-variants.{Plain, Speed}
 use Rattle.shorthand.specs.declared.Digits.{Digits}
 use Rattle.shorthand.specs.declared.Digits.the-variants.{Empty, One, Two, Three, Many}
 use Rattle.shorthand.specs.Edition.{later}
-use Rattle.shorthand.specs.Lawful.{digitIn, Class, plain, speed, dimension, classOf}
-use Rattle.shorthand.specs.Stand.{Made, made, more, wrong, oneDigit, twoDigits, dimensioned, unmarked, kindMade}
-use Rattle.shorthand.specs.Places.{digitsIn, addedAll, mapped}
+use Rattle.shorthand.specs.Lawful.{Class, plain, speed, dimension, classOf}
+use Rattle.shorthand.specs.Stand.{Made, more, wrong, oneDigit, twoDigits, dimensioned, unmarked, kindMade}
+use Rattle.shorthand.specs.Places.{digitsIn, addedAll}
 
 -- ---- the first three digits are enough
 
@@ -52,29 +52,18 @@ kind-enough e dimension m ds = dimension-enough e m ds
 -- ---- an item with one digit
 
 -- two digits or more make nothing
-pub several-wrong : {A : Type 0} (lo hi : ℕ) (k : ℕ → A) (ds : Digits) → OneOf (2 ∷ 3 ∷ 4 ∷ []) (tagOf the-type ds) → oneDigit lo hi k (digitsIn ds) ≡ wrong
+pub several-wrong : {A : Type 0} (lo hi : ℕ) (k : ℕ → A) (ds : Digits) → OneOf (2 ∷ 3 ∷ 4 ∷ []) (tagOf digits.the-type ds) → oneDigit lo hi k (digitsIn ds) ≡ wrong
 several-wrong lo hi k Empty h = absurd (⊎-elim (λ e. omega arith) (λ r. ⊎-elim (λ e. omega arith) (λ e. omega arith) r) h)
 several-wrong lo hi k (One d) h = absurd (⊎-elim (λ e. omega arith) (λ r. ⊎-elim (λ e. omega arith) (λ e. omega arith) r) h)
 several-wrong lo hi k (Two a b) h = refl
 several-wrong lo hi k (Three a b c) h = refl
 several-wrong lo hi k Many h = refl
 
-one-mapped : {A : Type 0} (k : ℕ → A) (lo hi : ℕ) (ds : List ℕ) → mapped k (oneDigit lo hi (λ d. d) ds) ≡ oneDigit lo hi k ds
-one-mapped k lo hi [] = refl
-one-mapped k lo hi (d ∷ []) = go (digitIn lo hi d)
-  where
-    go : (b : Bool) → mapped k (cond b (made d) wrong) ≡ cond b (made (k d)) wrong
-    go true = refl
-    go false = refl
-one-mapped k lo hi (d ∷ (x ∷ ds)) = refl
-
-unmarked-mapped : {A B : Type 0} (k : A → B) (m : Mark) (x : Made A) → mapped k (unmarked m x) ≡ unmarked m (mapped k x)
-unmarked-mapped k Unmarked x = refl
-unmarked-mapped k Plus x = refl
-unmarked-mapped k Delta x = refl
-
-pub one-kind : (k : ℕ → Kind) (m : Mark) (lo hi : ℕ) (ds : List ℕ) → mapped k (unmarked m (oneDigit lo hi (λ d. d) ds)) ≡ unmarked m (oneDigit lo hi k ds)
-one-kind k m lo hi ds = unmarked-mapped k m _ ∙ ap (unmarked m) (one-mapped k lo hi ds)
+-- nor does any with a mark
+pub marked-wrong : {A : Type 0} (m : Mark) (x : Made A) → OneOf (1 ∷ 2 ∷ []) (tagOf mark.the-type m) → unmarked m x ≡ wrong
+marked-wrong Unmarked x h = absurd (⊎-elim (λ e. omega arith) (λ e. omega arith) h)
+marked-wrong Plus x h = refl
+marked-wrong Delta x h = refl
 
 -- ---- `00`
 

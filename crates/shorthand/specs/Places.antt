@@ -1,17 +1,17 @@
 -- What the answers of the code's private functions say: a place of the text stands for the text from there on.
 use Prim.Native.Nat.{ℕ, _+_, _≤_, max}
 use mathlib.Core.Path.{_≡_}
-use mathlib.Core.Bool.{Bool}
+use mathlib.Core.Bool.{Bool, true, false}
 use mathlib.Core.List.{List, [], _∷_}
 use lib.ListN.{length, drop, set}
 use Rattle.rows.specs.Answer.{Answer, refused, told, void, valueOr}
 use Rattle.shorthand.specs.declared.Kind.{Kind}
+use Rattle.shorthand.specs.declared.Kind.the-variants.{Plain, Speed}
 use Rattle.shorthand.specs.declared.Item.{Item}
 use Rattle.shorthand.specs.declared.Format.{Format}
 use Rattle.shorthand.specs.declared.Parsed.{Parsed}
 use Rattle.shorthand.specs.declared.Digits.{Digits}
 use Rattle.shorthand.specs.declared.Digits.the-variants.{Empty, One, Two, Three, Many}
-use Rattle.shorthand.specs.declared.Single.{Single}
 use Rattle.shorthand.specs.declared.Making.{Making}
 use Rattle.shorthand.specs.declared.Found.{Found}
 use Rattle.shorthand.specs.declared.Sequence.{Sequence}
@@ -52,20 +52,15 @@ pub record Begins (t : List ℕ) (at : ℕ) (rest : List ℕ) (n : ℕ) : Type 0
 
 -- ---- what the code's answers say, in the definitions' words
 
-abbrev pub single : Single → Made ℕ
-single (Single.Digit d) = made d
-single Single.More = more
-single Single.Wrong = wrong
-
-abbrev pub mapped : {A B : Type 0} → (A → B) → Made A → Made B
-mapped f (made a) = made (f a)
-mapped f more = more
-mapped f wrong = wrong
-
 abbrev pub making : Making → Made Kind
 making (Making.Made k) = made k
 making Making.More = more
 making Making.Wrong = wrong
+
+-- what one digit is the number of: a speed's, or a plain number's
+abbrev pub singly : Bool → ℕ → Kind
+singly true = Speed
+singly false = Plain
 
 -- of an item in the text t, whose place stands for the text from there on
 abbrev pub found : List ℕ → Found → Stand Item

@@ -2,7 +2,7 @@
 ghost use mathlib.Core.Path.{_≡_};
 ghost use Rattle.shorthand.specs.Lawful.{classOf};
 ghost use Rattle.shorthand.specs.Stand.{oneDigit, unmarked, made, figured, twoDigits, threeDigits, dimensioned, kindMade};
-ghost use Rattle.shorthand.specs.Places.{digitsIn, single, mapped, making};
+ghost use Rattle.shorthand.specs.Places.{digitsIn, making, singly};
 use crate::Digits;
 use crate::FORM;
 use crate::Figures;
@@ -10,55 +10,28 @@ use crate::Kind;
 use crate::Making;
 use crate::Mark;
 use crate::Missing;
-use crate::Single;
 use crate::pieces::is_within;
 
-fn one_digit(low: u8, high: u8, digits: Digits) -> Single
-    ensures { λ r. ⌜ single r ≡ oneDigit low high (λ d. d) (digitsIn digits) ⌝ }
-{
-    match digits {
-        Digits::Empty => Single::More,
-        Digits::One(d) => {
-            if is_within(low, high, d) {
-                Single::Digit(d)
-            } else {
-                Single::Wrong
-            }
-        }
-        Digits::Two(_, _) => Single::Wrong,
-        Digits::Three(_, _, _) => Single::Wrong,
-        Digits::Many => Single::Wrong,
-    }
-}
-
-// Only a dimension has a mark.
-fn one_unmarked(mark: Mark, low: u8, high: u8, digits: Digits) -> Single
-    ensures { λ r. ⌜ single r ≡ unmarked mark (oneDigit low high (λ d. d) (digitsIn digits)) ⌝ }
+// An item with one digit, a speed or a plain number: only a dimension has a mark.
+fn make_single(speed: bool, low: u8, high: u8, mark: Mark, digits: Digits) -> Making
+    ensures { λ r. ⌜ making r ≡ unmarked mark (oneDigit low high (singly speed) (digitsIn digits)) ⌝ }
 {
     match mark {
-        Mark::Unmarked => one_digit(low, high, digits),
-        Mark::Plus => Single::Wrong,
-        Mark::Delta => Single::Wrong,
-    }
-}
-
-fn as_plain(s: Single) -> Making
-    ensures { λ r. ⌜ making r ≡ mapped Kind.Plain (single s) ⌝ }
-{
-    match s {
-        Single::Digit(d) => Making::Made(Kind::Plain(d)),
-        Single::More => Making::More,
-        Single::Wrong => Making::Wrong,
-    }
-}
-
-fn as_speed(s: Single) -> Making
-    ensures { λ r. ⌜ making r ≡ mapped Kind.Speed (single s) ⌝ }
-{
-    match s {
-        Single::Digit(d) => Making::Made(Kind::Speed(d)),
-        Single::More => Making::More,
-        Single::Wrong => Making::Wrong,
+        Mark::Unmarked => match digits {
+            Digits::Empty => Making::More,
+            Digits::One(d) => {
+                if !is_within(low, high, d) {
+                    return Making::Wrong;
+                }
+                if speed {
+                    Making::Made(Kind::Speed(d))
+                } else {
+                    Making::Made(Kind::Plain(d))
+                }
+            }
+            _ => Making::Wrong,
+        },
+        _ => Making::Wrong,
     }
 }
 
@@ -122,9 +95,9 @@ pub(crate) fn make_kind(edition: u32, letter: u8, mark: Mark, digits: Digits) ->
     ensures { λ r. ⌜ making r ≡ kindMade edition (classOf letter) mark (digitsIn digits) ⌝ }
 {
     match letter {
-        b'G' | b'M' => as_plain(one_unmarked(mark, 2, 2, digits)),
-        b'T' => as_plain(one_unmarked(mark, 1, 9, digits)),
-        b'F' | b'S' => as_speed(one_unmarked(mark, 3, 5, digits)),
+        b'G' | b'M' => make_single(false, 2, 2, mark, digits),
+        b'T' => make_single(false, 1, 9, mark, digits),
+        b'F' | b'S' => make_single(true, 3, 5, mark, digits),
         _ => make_dimension(edition, mark, digits),
     }
 }

@@ -90,13 +90,6 @@ struct Marked {
     after: usize,
 }
 
-// What digits make where an item has one.
-enum Single {
-    Digit(u8),
-    More,
-    Wrong,
-}
-
 // What an item's mark and digits make: a kind, or more digits could, or none can.
 enum Making {
     Made(Kind),
