@@ -1,6 +1,6 @@
 -- What digits make: it goes by the first three and by there being more, and by the letter's class.
 use Prim.Native.Nat.{ℕ}
-use mathlib.Core.Path.{_≡_, refl, ap}
+use mathlib.Core.Path.{_≡_, refl}
 use mathlib.Core.Logic.{_⊎_, inl, inr, ⊎-elim}
 use mathlib.Core.Bool.{true, cond}
 use mathlib.Core.List.{List, [], _∷_}
@@ -13,12 +13,11 @@ use Rattle.shorthand.proofs.Digits as digits
 use Rattle.shorthand.proofs.Mark as mark
 use Rattle.shorthand.specs.declared.Mark.{Mark}
 use Rattle.shorthand.specs.declared.Mark.the-variants.{Unmarked, Plus, Delta}
-use Rattle.shorthand.specs.declared.Kind.the-variants.{Plain, Speed}
 use Rattle.shorthand.specs.declared.Digits.{Digits}
 use Rattle.shorthand.specs.declared.Digits.the-variants.{Empty, One, Two, Three, Many}
 use Rattle.shorthand.specs.Edition.{later}
 use Rattle.shorthand.specs.Lawful.{Class, plain, speed, dimension, classOf}
-use Rattle.shorthand.specs.Stand.{Made, more, wrong, oneDigit, twoDigits, dimensioned, unmarked, kindMade}
+use Rattle.shorthand.specs.Stand.{Made, more, wrong, oneDigit, twoDigits, unmarked, kindMade}
 use Rattle.shorthand.specs.Places.{digitsIn, addedAll}
 
 -- ---- the first three digits are enough
@@ -28,26 +27,26 @@ unfolding addedAll
 many [] = refl
 many (d ∷ ds) = many ds
 
-pub one-enough : {A : Type 0} (lo hi : ℕ) (k : ℕ → A) (ds : List ℕ) → oneDigit lo hi k (digitsIn (addedAll Empty ds)) ≡ oneDigit lo hi k ds
+-- what is the same for all digits past three is told by the digits that the code holds
+enough : {A : Type 0} (f : List ℕ → A) → ((a b c d : ℕ) (ds : List ℕ) → f (0 ∷ 0 ∷ 0 ∷ 0 ∷ []) ≡ f (a ∷ b ∷ c ∷ d ∷ ds))
+    → (ds : List ℕ) → f (digitsIn (addedAll Empty ds)) ≡ f ds
 unfolding addedAll
-one-enough lo hi k [] = refl
-one-enough lo hi k (a ∷ []) = refl
-one-enough lo hi k (a ∷ (b ∷ [])) = refl
-one-enough lo hi k (a ∷ (b ∷ (c ∷ []))) = refl
-one-enough lo hi k (a ∷ (b ∷ (c ∷ (d ∷ ds)))) = rw (many ds)
+enough f past [] = refl
+enough f past (a ∷ []) = refl
+enough f past (a ∷ (b ∷ [])) = refl
+enough f past (a ∷ (b ∷ (c ∷ []))) = refl
+enough f past (a ∷ (b ∷ (c ∷ (d ∷ ds)))) = rw (many ds) (past a b c d ds)
 
-dimension-enough : (e : ℕ) (m : Mark) (ds : List ℕ) → dimensioned e m (digitsIn (addedAll Empty ds)) ≡ dimensioned e m ds
-unfolding addedAll
-dimension-enough e m [] = refl
-dimension-enough e m (a ∷ []) = refl
-dimension-enough e m (a ∷ (b ∷ [])) = refl
-dimension-enough e m (a ∷ (b ∷ (c ∷ []))) = refl
-dimension-enough e m (a ∷ (b ∷ (c ∷ (d ∷ ds)))) = rw (many ds)
+pub one-enough : {A : Type 0} (lo hi : ℕ) (k : ℕ → A) (ds : List ℕ) → oneDigit lo hi k (digitsIn (addedAll Empty ds)) ≡ oneDigit lo hi k ds
+one-enough lo hi k = enough (oneDigit lo hi k) (λ a b c d ds. refl)
 
 pub kind-enough : (e : ℕ) (cl : Class) (m : Mark) (ds : List ℕ) → kindMade e cl m (digitsIn (addedAll Empty ds)) ≡ kindMade e cl m ds
-kind-enough e (plain lo hi) m ds = ap (unmarked m) (one-enough lo hi Plain ds)
-kind-enough e speed m ds = ap (unmarked m) (one-enough 3 5 Speed ds)
-kind-enough e dimension m ds = dimension-enough e m ds
+kind-enough e cl m = enough (kindMade e cl m) (past cl)
+  where
+    past : (cl : Class) (a b c d : ℕ) (ds : List ℕ) → kindMade e cl m (0 ∷ 0 ∷ 0 ∷ 0 ∷ []) ≡ kindMade e cl m (a ∷ b ∷ c ∷ d ∷ ds)
+    past (plain lo hi) a b c d ds = refl
+    past speed a b c d ds = refl
+    past dimension a b c d ds = refl
 
 -- ---- an item with one digit
 
