@@ -20,7 +20,7 @@ use Rattle.shorthand.specs.declared.Sequence.{Sequence}
 use Rattle.shorthand.specs.Edition.{form, later, sequenceMost, rank, due, allowed, anyDue}
 use Rattle.shorthand.specs.Lawful.{digitIn, classOf}
 use Rattle.shorthand.specs.Stand.{starts, without, digitsOf, afterDigits, markOf, afterMark, Made, made, more, wrong, oneDigit, kindMade, Stand, whole, short, unfit, closed, lettered, named, dotFits, stand, standN}
-use Rattle.shorthand.specs.Places.{digitsIn, addedAll, Begins, making, Onward, Opens}
+use Rattle.shorthand.specs.Places.{digitsIn, addedAll, Begins, making, closing, Onward, Opens}
 use Rattle.shorthand.proofs.Runs.{from-place}
 use Rattle.shorthand.proofs.Makes.{one-enough, kind-enough}
 
@@ -50,12 +50,12 @@ onward-from t a b Found.Unfit h w = tt
 
 -- ---- the mark and the digits
 
-pub letter-reads : (e c : ℕ) (t : List ℕ) (at : ℕ) (m : Marked) (r : Run) (k : Making)
+pub letter-reads : (e c : ℕ) (t : List ℕ) (at : ℕ) (m : Marked) (r : Run) (x : Making)
     → m .mark ≡ markOf (drop at t) → Begins t at (afterMark (drop at t)) (m .after)
     → r .digits ≡ addedAll Empty (digitsOf (drop (m .after) t)) → Begins t (m .after) (afterDigits (drop (m .after) t)) (r .after)
-    → making k ≡ kindMade e (classOf c) (m .mark) (digitsIn (r .digits))
-    → lettered e c (drop at t) ≡ closed (λ x. record { letter = c; kind = x }) (making k) (drop (r .after) t)
-letter-reads e c t at m r k p b q d h = rw (h, p, q, d .there, b .there, kind-enough)
+    → making e (m .mark) x ≡ kindMade e (classOf c) (m .mark) (digitsIn (r .digits))
+    → lettered e c (drop at t) ≡ closing e c (m .mark) x (drop (r .after) t)
+letter-reads e c t at m r x p b q d h = rw (h, p, q, d .there, b .there, kind-enough)
 
 -- ---- N
 

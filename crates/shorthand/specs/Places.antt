@@ -5,6 +5,7 @@ use mathlib.Core.Bool.{Bool, true, false}
 use mathlib.Core.List.{List, [], _∷_}
 use lib.ListN.{length, drop, set}
 use Rattle.rows.specs.Answer.{Answer, refused, told, void, valueOr}
+use Rattle.shorthand.specs.declared.Mark.{Mark}
 use Rattle.shorthand.specs.declared.Kind.{Kind}
 use Rattle.shorthand.specs.declared.Kind.the-variants.{Plain, Speed}
 use Rattle.shorthand.specs.declared.Item.{Item}
@@ -17,7 +18,7 @@ use Rattle.shorthand.specs.declared.Found.{Found}
 use Rattle.shorthand.specs.declared.Sequence.{Sequence}
 use Rattle.shorthand.specs.Layout.{emptyFormat}
 use Rattle.shorthand.specs.Edition.{form}
-use Rattle.shorthand.specs.Stand.{Made, made, more, wrong, Stand, whole, short, unfit, standN}
+use Rattle.shorthand.specs.Stand.{Made, made, more, wrong, figured, Stand, whole, short, unfit, closed, standN}
 use Rattle.shorthand.specs.Parse.{leads}
 
 -- ---- digits
@@ -52,10 +53,17 @@ pub record Begins (t : List ℕ) (at : ℕ) (rest : List ℕ) (n : ℕ) : Type 0
 
 -- ---- what the code's answers say, in the definitions' words
 
-abbrev pub making : Making → Made Kind
-making (Making.Made k) = made k
-making Making.More = more
-making Making.Wrong = wrong
+-- a dimension's kind has its mark and its edition from elsewhere
+abbrev pub making : ℕ → Mark → Making → Made Kind
+making e m (Making.Plain d) = made (Plain d)
+making e m (Making.Speed d) = made (Speed d)
+making e m (Making.Dimension z a b) = made (figured e m z a b)
+making e m Making.More = more
+making e m Making.Wrong = wrong
+
+-- the item of the letter c that they make, before rest
+abbrev pub closing : ℕ → ℕ → Mark → Making → List ℕ → Stand Item
+closing e c m x rest = closed (λ k. record { letter = c; kind = k }) (making e m x) rest
 
 -- what one digit is the number of: a speed's, or a plain number's
 abbrev pub singly : Bool → ℕ → Kind

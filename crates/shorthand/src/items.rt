@@ -5,13 +5,16 @@ ghost use lib.ListN.{length, drop};
 ghost use Rattle.shorthand.specs.Edition.{rank, allowed};
 ghost use Rattle.shorthand.specs.Stand.{lettered, named, dotFits, stand};
 ghost use Rattle.shorthand.specs.Parse.{settle};
-ghost use Rattle.shorthand.specs.Places.{found, Onward, Opens};
+ghost use Rattle.shorthand.specs.Places.{closing, found, Onward, Opens};
 use crate::Digits;
 use crate::Dots;
 use crate::FORM;
+use crate::Figures;
 use crate::Found;
 use crate::Item;
+use crate::Kind;
 use crate::Making;
+use crate::Mark;
 use crate::Sequence;
 use crate::kinds::make_kind;
 use crate::pieces::has_dot;
@@ -71,6 +74,42 @@ fn is_allowed(edition: u32, letter: u8) -> bool
     }
 }
 
+// The item that its digits make. More digits could stand only where the text ends with it.
+fn close_item(
+    edition: u32,
+    letter: u8,
+    mark: Mark,
+    made: Making,
+    text: &[u8],
+    after: usize,
+) -> Found
+    requires { ⌜ after ≤ length (now text) ⌝ }
+    ensures stands { λ r. ⌜ found (now (text .entry)) r ≡ closing edition letter mark made (drop after (now (text .entry))) ⌝ }
+    ensures after { λ r. ⌜ Onward (now (text .entry)) after r ⌝ }
+{
+    let kind = match made {
+        Making::Plain(d) => Kind::Plain(d),
+        Making::Speed(d) => Kind::Speed(d),
+        Making::Dimension(missing, before, behind) => Kind::Dimension(Figures {
+            mark,
+            before,
+            after: behind,
+            missing,
+            bare: edition == FORM,
+        }),
+        Making::More => {
+            if after < text.len() {
+                return Found::Unfit;
+            }
+            return Found::Short;
+        }
+        Making::Wrong => {
+            return Found::Unfit;
+        }
+    };
+    Found::Whole(Item { letter, kind }, after)
+}
+
 fn figures_at(edition: u32, letter: u8, text: &[u8], at: usize) -> Found
     requires { ⌜ at ≤ length (now text) ⌝ }
     ensures stands { λ r. ⌜ found (now (text .entry)) r ≡ lettered edition letter (drop at (now (text .entry))) ⌝ }
@@ -80,19 +119,8 @@ fn figures_at(edition: u32, letter: u8, text: &[u8], at: usize) -> Found
     let mark = marked.mark;
     let run = read_digits(text, marked.after);
     let digits = run.digits;
-    let after = run.after;
-    match make_kind(edition, letter, mark, digits) {
-        Making::Made(kind) => Found::Whole(Item { letter, kind }, after),
-        Making::More => {
-            // Further bytes are digits of this item only where the text ends with it.
-            if after < text.len() {
-                Found::Unfit
-            } else {
-                Found::Short
-            }
-        }
-        Making::Wrong => Found::Unfit,
-    }
+    let made = make_kind(edition, letter, mark, digits);
+    close_item(edition, letter, mark, made, text, run.after)
 }
 
 fn letter_at(edition: u32, last: u8, text: &[u8], at: usize) -> Found

@@ -90,9 +90,11 @@ struct Marked {
     after: usize,
 }
 
-// What an item's mark and digits make: a kind, or more digits could, or none can.
+// What an item's digits make: the numbers of a kind; or nothing, where more digits could make one, or none can.
 enum Making {
-    Made(Kind),
+    Plain(u8),
+    Speed(u8),
+    Dimension(Missing, u8, u8),
     More,
     Wrong,
 }

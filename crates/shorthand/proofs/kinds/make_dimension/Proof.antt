@@ -25,19 +25,19 @@ enum-told-3 : tie.Need-enum-told-3
 enum-told-3 c = search needs
 
 returns : tie.Need-returns
-returns c = search needs
+returns c = λ m. rw (c .enum-told .given .1)
 
 returns-2 : tie.Need-returns-2
-returns-2 c = search needs
+returns-2 c = λ m. rw (c .enum-told2 .given .1)
 
 returns-3 : tie.Need-returns-3
-returns-3 c = rw (c .before .before .digits .given .1) (c .two-digits .ensures)
+returns-3 c = λ m. rw (c .before .before .digits .given .1) (c .two-digits .ensures m)
 
 returns-4 : tie.Need-returns-4
-returns-4 c = rw (c .before .before .digits2 .given .1) (c .three-digits .ensures)
+returns-4 c = λ m. rw (c .before .before .digits2 .given .1) (c .three-digits .ensures m)
 
 returns-5 : tie.Need-returns-5
-returns-5 c = search needs
+returns-5 c = λ m. rw (c .enum-told3 .given .1)
 
 pub make-dimension-spec : {M : Type 1} → statement M
 make-dimension-spec =

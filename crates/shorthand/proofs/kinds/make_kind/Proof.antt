@@ -17,16 +17,16 @@ make-dimension-requires : tie.Need-make-dimension-requires
 make-dimension-requires c κs = search needs
 
 returns : tie.Need-returns
-returns c = rw (class-two (c .before .match .keys1)) (c .make-single .ensures)
+returns c = rw (class-two (c .before .match .keys1)) (c .make-single .ensures _)
 
 returns-2 : tie.Need-returns-2
-returns-2 c = rw (c .before .match .keys2) (c .make-single2 .ensures)
+returns-2 c = rw (c .before .match .keys2) (c .make-single2 .ensures _)
 
 returns-3 : tie.Need-returns-3
-returns-3 c = rw (class-speed (c .before .match .keys3)) (c .make-single3 .ensures)
+returns-3 c = rw (class-speed (c .before .match .keys3)) (c .make-single3 .ensures _)
 
 returns-4 : tie.Need-returns-4
-returns-4 c = rw (class-dimension (c .before .match .rest .0 .0 .1) (c .before .match .rest .0 .1) (c .before .match .rest .1)) (c .make-dimension .ensures)
+returns-4 c = rw (class-dimension (c .before .match .rest .0 .0 .1) (c .before .match .rest .0 .1) (c .before .match .rest .1)) (c .make-dimension .ensures _)
 
 pub make-kind-spec : {M : Type 1} → statement M
 make-kind-spec =

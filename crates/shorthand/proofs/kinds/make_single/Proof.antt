@@ -29,24 +29,24 @@ is-within-requires : tie.Need-is-within-requires
 is-within-requires c κs = search needs
 
 returns : tie.Need-returns
-returns c =
+returns c = λ e.
     let within = c .before .is-within in
     rw (c .before .before .before .before .before .enum-told .given .1, c .before .before .before .digits .given .1, ← (within .ensures), not-true (within .result) (c .if1 .taken))
 
 returns-2 : tie.Need-returns-2
-returns-2 c = search needs
+returns-2 c = λ e. rw (c .before .before .enum-told .given .1, c .enum-told2 .given .1)
 
 returns-3 : tie.Need-returns-3
-returns-3 c = rw (one (c .before), c .if2 .taken)
+returns-3 c = λ e. rw (one (c .before), c .if2 .taken)
 
 returns-4 : tie.Need-returns-4
-returns-4 c = rw (one (c .before), c .if2 .left)
+returns-4 c = λ e. rw (one (c .before), c .if2 .left)
 
 returns-5 : tie.Need-returns-5
-returns-5 c = rw (c .before .enum-told .given .1, several-wrong _ _ _ _ (c .match2 .keys3))
+returns-5 c = λ e. rw (c .before .enum-told .given .1, several-wrong _ _ _ _ (c .match2 .keys3))
 
 returns-6 : tie.Need-returns-6
-returns-6 c = rw (marked-wrong _ _ (c .match .keys2))
+returns-6 c = λ e. rw (marked-wrong _ _ (c .match .keys2))
 
 pub make-single-spec : {M : Type 1} → statement M
 make-single-spec =
