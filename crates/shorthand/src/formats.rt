@@ -60,13 +60,13 @@ pub(crate) fn refuse(number: u32, place: usize) -> Parsed
 }
 
 // 2 where the later edition can't mend the item either, else 3.
-fn refuse_item(dots: Dots, last: u8, text: &[u8], at: usize) -> Parsed
-    ensures { λ r. ⌜ Says r (refused (beyond (stand form dots last (drop at (now (text .entry))))) at) ⌝ }
+fn judge_item(dots: Dots, last: u8, text: &[u8], at: usize) -> u32
+    ensures { λ r. ⌜ r ≡ beyond (stand form dots last (drop at (now (text .entry)))) ⌝ }
 {
     match item_at(FORM, dots, last, text, at) {
-        Found::Whole(_, _) => refuse(3, at),
-        Found::Short => refuse(3, at),
-        Found::Unfit => refuse(2, at),
+        Found::Whole(_, _) => 3,
+        Found::Short => 3,
+        Found::Unfit => 2,
     }
 }
 
@@ -105,7 +105,7 @@ pub(crate) fn read_items(edition: u32, sequence: u8, text: &[u8], start: usize) 
                 return refuse(2, text.len());
             }
             Found::Unfit => {
-                return refuse_item(dots, last, text, at);
+                return refuse(judge_item(dots, last, text, at), at);
             }
         }
     }

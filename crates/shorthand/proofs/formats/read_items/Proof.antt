@@ -77,17 +77,20 @@ returns-2 c = rw (rw (c .before .enum-told .given .1) at (met (c .before .before
 enum-told-2 : tie.Need-enum-told-2 Inv-loop μ-loop
 enum-told-2 c = search needs
 
-refuse-item-requires : tie.Need-refuse-item-requires Inv-loop μ-loop
-refuse-item-requires c κs = search needs
-
-returns-3 : tie.Need-returns-3 Inv-loop μ-loop
-returns-3 c = rw (rw (c .before .enum-told2 .given .1) at (met (c .before .before .before))) (c .refuse-item .ensures)
+judge-item-requires : tie.Need-judge-item-requires Inv-loop μ-loop
+judge-item-requires c κs = search needs
 
 refuse-requires-2 : tie.Need-refuse-requires-2 Inv-loop μ-loop
 refuse-requires-2 c κs = search needs
 
+returns-3 : tie.Need-returns-3 Inv-loop μ-loop
+returns-3 c = rw (rw (c .before .before .enum-told2 .given .1) at (met (c .before .before .before .before)), ← (c .before .judge-item .ensures)) (c .refuse2 .ensures)
+
+refuse-requires-3 : tie.Need-refuse-requires-3 Inv-loop μ-loop
+refuse-requires-3 c κs = search needs
+
 returns-4 : tie.Need-returns-4 Inv-loop μ-loop
-returns-4 c = rw (walk-runs-out (c .before .before .loop .inv) (c .before .loop-test .left)) (c .refuse2 .ensures)
+returns-4 c = rw (walk-runs-out (c .before .before .loop .inv) (c .before .loop-test .left)) (c .refuse3 .ensures)
 
 pub read-items-spec : {M : Type 1} → statement M
 read-items-spec =
@@ -113,7 +116,8 @@ read-items-spec =
     refuse-requires
     returns-2
     enum-told-2
-    refuse-item-requires
-    returns-3
+    judge-item-requires
     refuse-requires-2
+    returns-3
+    refuse-requires-3
     returns-4)
