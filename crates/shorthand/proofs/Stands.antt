@@ -3,12 +3,12 @@ use Prim.Native.Nat.{ℕ, zero, suc, _+_, _≤_, _<_, suc-le-suc}
 use mathlib.Core.Path.{_≡_, refl}
 use mathlib.Core.Bool.{Bool, true, false, _&&_, _||_, cond, false≢true, and-eq-true-iff}
 use mathlib.Core.List.{List, [], _∷_}
-use native.Mathlib.Nat.{not-suc-le-zero, zero-add}
+use native.Mathlib.Nat.{zero-add}
 use native.Mathlib.Omega.{arith}
-use lib.ListN.{length, getD, drop}
+use lib.ListN.{length, drop}
 use lib.Dec.{eqb, leb}
 use lib.Seq.{drop-nil}
-use borrow.Author.Tests.{eq-eqb, ne-eqb, le-leb, lt-leb, leb-true, ltb-true}
+use borrow.Author.Tests.{ne-eqb, le-leb, lt-leb, leb-true, ltb-true}
 use Rattle.shorthand.specs.declared.Item.{Item}
 use Rattle.shorthand.specs.declared.Marked.{Marked}
 use Rattle.shorthand.specs.declared.Run.{Run}
@@ -26,17 +26,14 @@ use Rattle.shorthand.proofs.Makes.{one-enough, kind-enough}
 
 -- ---- the dot
 
-within-start : (c : ℕ) (t : List ℕ) (at : ℕ) → starts c (drop at t) ≡ true → at < length t
+pub within-start : (c : ℕ) (t : List ℕ) (at : ℕ) → starts c (drop at t) ≡ true → at < length t
 within-start c [] at h = absurd (false≢true (rw drop-nil at h))
 within-start c (b ∷ t) zero h = omega arith
 within-start c (b ∷ t) (suc at) h = suc-le-suc (within-start c t at h)
 
-pub dot-within : (t : List ℕ) (at : ℕ) → starts 46 (drop at t) ≡ true → at < length t
-dot-within t at h = within-start 46 t at h
-
 pub behind-dot : (t : List ℕ) (at : ℕ) → starts 46 (drop at t) ≡ true → without 46 (drop at t) ≡ drop (at + 1) t
 behind-dot t at h =
-    let e = from-place t at (dot-within t at h) in
+    let e = from-place t at (within-start 46 t at h) in
     rw (e, rw e at h)
 
 pub no-dot : (t : List ℕ) → starts 46 t ≡ false → without 46 t ≡ t
@@ -59,22 +56,12 @@ letter-reads e c t at m r x p b q d h = rw (h, p, q, d .there, b .there, kind-en
 
 -- ---- N
 
-pub sequence-reads : (t : List ℕ) (r : Run) → 0 < length t → getD t 0 0 ≡ 78
+pub sequence-reads : (t : List ℕ) (r : Run) → starts 78 t ≡ true
     → r .digits ≡ addedAll Empty (digitsOf (drop 1 t)) → Begins t 1 (afterDigits (drop 1 t)) (r .after)
     → standN form t ≡ closed (λ d. d) (oneDigit 3 9 (λ d. d) (digitsIn (r .digits))) (drop (r .after) t)
 unfolding standN
-sequence-reads [] r l n q d = absurd (not-suc-le-zero l)
-sequence-reads (c ∷ t) r l n q d = rw (eq-eqb c 78 n, q, d .there, one-enough)
-
-sequence-missing : (t : List ℕ) → length t ≡ 0 → standN form t ≡ short
-unfolding standN
-sequence-missing [] h = refl
-sequence-missing (c ∷ t) h = absurd (omega arith)
-
-pub sequence-other : (t : List ℕ) → 0 < length t → (getD t 0 0 ≡ 78 → ⊥) → standN form t ≡ unfit
-unfolding standN
-sequence-other [] l n = absurd (not-suc-le-zero l)
-sequence-other (c ∷ t) l n = rw (ne-eqb c 78 n)
+sequence-reads [] r n q d = absurd (false≢true n)
+sequence-reads (c ∷ t) r n q d = rw (n, q, d .there, one-enough)
 
 -- an N item that is in form, in an edition: the later one takes it, the other where its digit is at most 3
 abbrev taking : Bool → Stand ℕ → Stand ℕ
@@ -121,9 +108,6 @@ module _ (e : ℕ) (t : List ℕ) where
   pub opens-short : standN form t ≡ short → Opens e t (Sequence.Refused 2 (length t))
   opens-short s = λ k. rw (sequence-taken e t, s, zero-add)
 
-  pub opens-missing : length t ≡ 0 → Opens e t (Sequence.Refused 2 0)
-  opens-missing h = rw h at (opens-short (sequence-missing t h))
-
   pub opens-unfit : standN form t ≡ unfit → Opens e t (Sequence.Refused 2 0)
   opens-unfit s = λ k. rw (sequence-taken e t, s)
 
@@ -132,6 +116,11 @@ module _ (e : ℕ) (t : List ℕ) where
 
   pub opens-whole : {d : ℕ} (n : ℕ) → standN form t ≡ whole d (drop n t) → later e || leb d 3 ≡ true → n ≤ length t → Opens e t (Sequence.Whole d n)
   opens-whole n s h w = (rw (sequence-taken e t, s, h), w)
+
+pub opens-otherwise : (e : ℕ) (t : List ℕ) → starts 78 t ≡ false → Opens e t (Sequence.Refused 2 0)
+unfolding standN
+opens-otherwise e [] h = λ k. refl
+opens-otherwise e (c ∷ t) h = λ k. rw h
 
 -- ---- a whole item is due
 

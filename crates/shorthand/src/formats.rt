@@ -20,7 +20,7 @@ use crate::Parsed;
 use crate::items::item_at;
 use crate::items::rank_of;
 use crate::items::settle_dots;
-use crate::pieces::has_dot;
+use crate::pieces::has_byte;
 use rows::Checked;
 use rows::Refusal;
 
@@ -95,7 +95,7 @@ pub(crate) fn read_items(edition: u32, sequence: u8, text: &[u8], start: usize) 
         }
         match item_at(edition, dots, last, text, at) {
             Found::Whole(item, next) => {
-                let dot = has_dot(text, at);
+                let dot = has_byte(text, at, b'.');
                 format = push_item(format, dot, item);
                 dots = settle_dots(dot);
                 last = rank_of(item.letter);

@@ -17,7 +17,7 @@ use crate::Making;
 use crate::Mark;
 use crate::Sequence;
 use crate::kinds::make_kind;
-use crate::pieces::has_dot;
+use crate::pieces::has_byte;
 use crate::pieces::is_within;
 use crate::pieces::read_digits;
 use crate::pieces::read_mark;
@@ -164,7 +164,7 @@ pub(crate) fn item_at(edition: u32, dots: Dots, last: u8, text: &[u8], at: usize
     ensures stands { λ r. ⌜ found (now (text .entry)) r ≡ stand edition dots last (drop at (now (text .entry))) ⌝ }
     ensures after { λ r. ⌜ Onward (now (text .entry)) (at + 1) r ⌝ }
 {
-    let dot = has_dot(text, at);
+    let dot = has_byte(text, at, b'.');
     if !dot_fits(edition, dots, dot) {
         return Found::Unfit;
     }
@@ -178,10 +178,7 @@ pub(crate) fn item_at(edition: u32, dots: Dots, last: u8, text: &[u8], at: usize
 pub(crate) fn sequence_at(edition: u32, text: &[u8]) -> Sequence
     ensures { λ r. ⌜ Opens edition (now (text .entry)) r ⌝ }
 {
-    if text.len() == 0 {
-        return Sequence::Refused(2, 0);
-    }
-    if text[0] != b'N' {
+    if !has_byte(text, 0, b'N') {
         return Sequence::Refused(2, 0);
     }
     let run = read_digits(text, 1);

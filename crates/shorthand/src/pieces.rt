@@ -1,4 +1,4 @@
-// The pieces of a text: a dot, a mark, and the digits that stand together.
+// The pieces of a text: a byte, a mark, and the digits that stand together.
 ghost use mathlib.Core.Path.{_≡_};
 ghost use lib.ListN.{drop};
 ghost use Rattle.shorthand.specs.Lawful.{digitIn};
@@ -9,11 +9,11 @@ use crate::Mark;
 use crate::Marked;
 use crate::Run;
 
-pub(crate) fn has_dot(text: &[u8], at: usize) -> bool
-    ensures { λ r. ⌜ r ≡ starts 46 (drop at (now (text .entry))) ⌝ }
+pub(crate) fn has_byte(text: &[u8], at: usize, b: u8) -> bool
+    ensures { λ r. ⌜ r ≡ starts b (drop at (now (text .entry))) ⌝ }
 {
     if at < text.len() {
-        text[at] == b'.'
+        text[at] == b
     } else {
         false
     }

@@ -43,8 +43,8 @@ item-at-requires c κs = search needs
 enum-known-item : tie.Need-enum-known-item Inv-loop μ-loop
 enum-known-item c = search needs
 
-has-dot-requires : tie.Need-has-dot-requires Inv-loop μ-loop
-has-dot-requires c κs = search needs
+has-byte-requires : tie.Need-has-byte-requires Inv-loop μ-loop
+has-byte-requires c κs = search needs
 
 push-item-requires : tie.Need-push-item-requires Inv-loop μ-loop
 push-item-requires c κs = rw (c .before .before .item .given .1) at (met (c .before .before .before .before)) .2
@@ -63,7 +63,7 @@ loop-less c =
 loop-again : tie.Need-loop-again Inv-loop μ-loop
 loop-again c =
     let m = rw (c .before .before .before .before .before .item .given .1) at (met (c .before .before .before .before .before .before .before)) in
-    rw (c .before .before .push-item .ensures, c .before .settle-dots .ensures, c .before .before .before .has-dot .ensures, c .rank-of .ensures) (m .3)
+    rw (c .before .before .push-item .ensures, c .before .settle-dots .ensures, c .before .before .before .has-byte .ensures, c .rank-of .ensures) (m .3)
 
 enum-told : tie.Need-enum-told Inv-loop μ-loop
 enum-told c = search needs
@@ -106,7 +106,7 @@ read-items-spec =
     returns
     item-at-requires
     enum-known-item
-    has-dot-requires
+    has-byte-requires
     push-item-requires
     settle-dots-requires
     rank-of-requires
