@@ -1,14 +1,14 @@
 -- How items stand, read at places of the text.
 use Prim.Native.Nat.{ℕ, zero, suc, _+_, _≤_, _<_, suc-le-suc}
 use mathlib.Core.Path.{_≡_, refl}
-use mathlib.Core.Bool.{Bool, true, false, _&&_, _||_, cond, false≢true, and-eq-true-iff}
+use mathlib.Core.Bool.{Bool, true, false, _&&_, _||_, cond, false≢true}
 use mathlib.Core.List.{List, [], _∷_}
 use native.Mathlib.Nat.{zero-add}
 use native.Mathlib.Omega.{arith}
 use lib.ListN.{length, drop}
-use lib.Dec.{eqb, leb}
+use lib.Dec.{T, eqb, leb, ltb→lt}
 use lib.Seq.{drop-nil}
-use borrow.Author.Tests.{ne-eqb, le-leb, lt-leb, leb-true, ltb-true}
+use borrow.Author.Tests.{ne-eqb, le-leb, lt-leb, leb-true}
 use Rattle.shorthand.specs.declared.Item.{Item}
 use Rattle.shorthand.specs.declared.Marked.{Marked}
 use Rattle.shorthand.specs.declared.Run.{Run}
@@ -21,6 +21,7 @@ use Rattle.shorthand.specs.Edition.{form, later, sequenceMost, rank, due
 use Rattle.shorthand.specs.Lawful.{digitIn, classOf}
 use Rattle.shorthand.specs.Stand.{starts, without, digitsOf, afterDigits, markOf, afterMark, Made, made, more, wrong, oneDigit, kindMade, Stand, whole, short, unfit, closed, lettered, named, dotFits, stand, standN}
 use Rattle.shorthand.specs.Places.{digitsIn, addedAll, Begins, making, closing, Onward, Opens}
+use Rattle.shorthand.proofs.Tests.{first, by-test}
 use Rattle.shorthand.proofs.Runs.{from-place}
 use Rattle.shorthand.proofs.Makes.{one-enough, kind-enough}
 
@@ -124,11 +125,6 @@ opens-otherwise e (c ∷ t) h = λ k. rw h
 
 -- ---- a whole item is due
 
--- what holds of both cases of a test holds of the test's outcome
-by-test : {A : Type 0} (P : A → Type 0) (b : Bool) {x y : A} → (b ≡ true → P x) → P y → P (cond b x y)
-by-test P true f g = f refl
-by-test P false f g = g
-
 abbrev Ranked : ℕ → Stand Item → Type 0
 Ranked last (whole it rest) = last < rank (it .letter)
 Ranked last short = Unit {0}
@@ -142,17 +138,17 @@ closed-ranked last f h wrong rest = tt
 
 named-ranked : (e last : ℕ) (t : List ℕ) → Ranked last (named e last t)
 unfolding due
-named-ranked e last [] = by-test (Ranked last) (anyDue e last) (λ h. tt) tt
-named-ranked e last (c ∷ t) = by-test (Ranked last) (due last c && allowed e c) item tt
+named-ranked e last [] = by-test (Ranked last) (anyDue e last) (λ h. tt) (λ h. tt)
+named-ranked e last (c ∷ t) = by-test (Ranked last) (due last c && allowed e c) item (λ h. tt)
   where
-    item : due last c && allowed e c ≡ true → Ranked last (lettered e c t)
+    item : T (due last c && allowed e c) → Ranked last (lettered e c t)
     item h =
-        closed-ranked last (λ k. record { letter = c; kind = k }) (λ k. ltb-true last (rank c) (and-eq-true-iff (due last c) (allowed e c) .0 h .0))
+        closed-ranked last (λ k. record { letter = c; kind = k }) (λ k. ltb→lt last (rank c) (first (due last c) (allowed e c) h))
         (kindMade e (classOf c) (markOf t) (digitsOf (afterMark t))) (afterDigits (afterMark t))
 
 stand-ranked : (e : ℕ) (dots : Dots) (last : ℕ) (t : List ℕ) → Ranked last (stand e dots last t)
 unfolding stand
-stand-ranked e dots last t = by-test (Ranked last) (dotFits e dots (starts 46 t)) (λ h. named-ranked e last (without 46 t)) tt
+stand-ranked e dots last t = by-test (Ranked last) (dotFits e dots (starts 46 t)) (λ h. named-ranked e last (without 46 t)) (λ h. tt)
 
 pub whole-ranked : (e : ℕ) (dots : Dots) (last : ℕ) (t : List ℕ) {it : Item} {rest : List ℕ} → stand e dots last t ≡ whole it rest → last < rank (it .letter)
 whole-ranked e dots last t h = rw h at (stand-ranked e dots last t)
