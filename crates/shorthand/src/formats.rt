@@ -19,7 +19,6 @@ use crate::Kind;
 use crate::Parsed;
 use crate::items::item_at;
 use crate::items::rank_of;
-use crate::items::settle_dots;
 use crate::pieces::has_byte;
 use rows::Checked;
 use rows::Refusal;
@@ -97,7 +96,7 @@ pub(crate) fn read_items(edition: u32, sequence: u8, text: &[u8], start: usize) 
             Found::Whole(item, next) => {
                 let dot = has_byte(text, at, b'.');
                 format = push_item(format, dot, item);
-                dots = settle_dots(dot);
+                dots = if dot { Dots::Dotted } else { Dots::Plainly };
                 last = rank_of(item.letter);
                 at = next;
             }

@@ -4,7 +4,6 @@ ghost use Prim.Native.Nat.{_+_, _≤_};
 ghost use lib.ListN.{length, drop};
 ghost use Rattle.shorthand.specs.Edition.{rank, allowed};
 ghost use Rattle.shorthand.specs.Stand.{lettered, named, dotFits, stand};
-ghost use Rattle.shorthand.specs.Parse.{settle};
 ghost use Rattle.shorthand.specs.Places.{closing, found, Onward, Opens};
 use crate::Digits;
 use crate::Dots;
@@ -74,7 +73,7 @@ fn is_allowed(edition: u32, letter: u8) -> bool
     }
 }
 
-// The item that its digits make. More digits could stand only where the text ends with it.
+// The item that its digits make.
 fn close_item(
     edition: u32,
     letter: u8,
@@ -98,6 +97,7 @@ fn close_item(
             bare: edition == FORM,
         }),
         Making::More => {
+            // Further bytes are its digits only where the text ends with it.
             if after < text.len() {
                 return Found::Unfit;
             }
@@ -151,12 +151,6 @@ fn dot_fits(edition: u32, dots: Dots, dot: bool) -> bool
         Dots::Dotted => dot,
         Dots::Plainly => !dot,
     }
-}
-
-pub(crate) fn settle_dots(dot: bool) -> Dots
-    ensures { λ r. ⌜ r ≡ settle dot ⌝ }
-{
-    if dot { Dots::Dotted } else { Dots::Plainly }
 }
 
 // The word item at a place, where the last before it had this rank.

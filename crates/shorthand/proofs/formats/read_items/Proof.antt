@@ -1,11 +1,13 @@
 -- `shorthand::formats::read_items` meets its contract: the loop keeps `Walked`, and each way out of it gives the answer of the walk.
 use Prim.Native.Nat.{_-_}
+use mathlib.Core.Path.{_≡_}
+use mathlib.Core.Logic.{⊎-elim}
 use mathlib.Core.List.{[]}
 use native.Mathlib.Omega.{arith}
 use lib.ListN.{length, drop}
 use borrow.Author.Needs.{needs}
 use Rattle.shorthand.specs.declared.Dots.the-variants.{Open}
-use Rattle.shorthand.specs.Parse.{itemsFrom}
+use Rattle.shorthand.specs.Parse.{settle, itemsFrom}
 use Rattle.shorthand.proofs.Walk.{Walked, walk-starts, walk-ends, walk-runs-out, Met, walk-meets}
 use Rattle.shorthand.proofs.formats.read_items.Statement.{statement}
 use Rattle.shorthand.proofs.formats.read_items.Tie as tie
@@ -18,6 +20,9 @@ abbrev μ-loop : tie.MeasureT-loop
 
 met : (c : tie.After-item-at Inv-loop μ-loop) → Met (c .before .before .before .before .loop .inv) (c .before .before .before .loop-test .taken) (c .item-at .result)
 met c = walk-meets (c .before .before .before .before .loop .inv) (c .before .before .before .loop-test .taken) (c .before .if1 .left) (c .item-at .result) (c .item-at .ensures .0) (c .item-at .ensures .1)
+
+settled : (c : tie.Joined2 Inv-loop μ-loop) → c .if2 .dots ≡ settle (c .before .before .has-byte .result)
+settled c = ⊎-elim (λ w. rw (w .1, w .0 .taken)) (λ w. rw (w .1, w .0 .left)) (c .if2 .came)
 
 start-format-requires : tie.Need-start-format-requires Inv-loop μ-loop
 start-format-requires c κs = search needs
@@ -49,9 +54,6 @@ has-byte-requires c κs = search needs
 push-item-requires : tie.Need-push-item-requires Inv-loop μ-loop
 push-item-requires c κs = rw (c .before .before .item .given .1) at (met (c .before .before .before .before)) .2
 
-settle-dots-requires : tie.Need-settle-dots-requires Inv-loop μ-loop
-settle-dots-requires c κs = search needs
-
 rank-of-requires : tie.Need-rank-of-requires Inv-loop μ-loop
 rank-of-requires c κs = search needs
 
@@ -63,7 +65,7 @@ loop-less c =
 loop-again : tie.Need-loop-again Inv-loop μ-loop
 loop-again c =
     let m = rw (c .before .before .before .before .before .item .given .1) at (met (c .before .before .before .before .before .before .before)) in
-    rw (c .before .before .push-item .ensures, c .before .settle-dots .ensures, c .before .before .before .has-byte .ensures, c .rank-of .ensures) (m .3)
+    rw (c .before .before .push-item .ensures, settled (c .before), c .before .before .before .has-byte .ensures, c .rank-of .ensures) (m .3)
 
 enum-told : tie.Need-enum-told Inv-loop μ-loop
 enum-told c = search needs
@@ -108,7 +110,6 @@ read-items-spec =
     enum-known-item
     has-byte-requires
     push-item-requires
-    settle-dots-requires
     rank-of-requires
     loop-less
     loop-again
