@@ -58,7 +58,7 @@ returns-2 c =
     opens-unfit _ _ (read (c .before .before .before .before .before) ∙ rw (c .before .before .before .digits .given .1, ← (within .ensures), not-true (within .result) (c .if3 .taken)))
 
 returns-3 : tie.Need-returns-3
-returns-3 c = opens-beyond _ _ (digit (c .before .before)) (c .before .if4 .taken) (ltb-true 3 _ (c .if5 .taken))
+returns-3 c = opens-beyond _ _ (digit (c .before .before)) (c .before .if4 .taken) (omega (arith, ltb-true))
 
 returns-4 : tie.Need-returns-4
 returns-4 c = opens-unfit _ _ (read (c .before .before .before) ∙ rw (c .before .enum-told .given .1, from-place _ _ (c .if2 .taken)))
@@ -69,9 +69,10 @@ returns-5 c = opens-short _ _ (read (c .before .before .before) ∙ rw (c .befor
 returns-6 : tie.Need-returns-6
 returns-6 c =
     let t = c .before .before .before .before .before .before .before .before .before .before .args .text .now in
+    let d = c .before .before .before .before .digits .given .0 .0 in
     let first : 0 < length t = within-start 78 t 0 (named (c .before .before .before .before .before .before .before)) in
     opens-whole _ _ _ (digit (c .before))
-    (⊎-elim (λ w. rw (ne-eqb _ _ (w .0 .taken), le-leb _ 3 (ltb-false 3 _ (w .1 .left)))) (λ w. rw (w .left)) (c .if4 .came))
+    (⊎-elim (λ w. rw (ne-eqb _ _ (w .0 .taken), le-leb d 3 (omega (arith, ltb-false)))) (λ w. rw (w .left)) (c .if4 .came))
     (omega arith)
 
 returns-7 : tie.Need-returns-7
