@@ -17,7 +17,7 @@ use Rattle.reading.specs.Figures.{run, figures}
 use Rattle.reading.specs.Parse.{dataAt, wordsAt, blockAt, headAt, blocksAt}
 use Rattle.reading.specs.Answers.{programAt, read}
 use Rattle.reading.proofs.Cases.{rows}
-use Rattle.lines.specs.Text.{text, decimalIn}
+use Rattle.text.specs.Text.{text, decimalIn}
 use Rattle.lines.specs.Listing.{headerOf, listedUnder, listing}
 
 pub record Case : Type 0 where

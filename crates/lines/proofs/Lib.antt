@@ -1,7 +1,6 @@
--- Laws of the text and of what puts leave in a line.
-pub mod Puts
-pub mod Decimals
+-- Laws of the lines, of the pages and of the listing's input.
 pub mod Printing
+pub mod Clearing
 pub mod Paging
 pub mod PageAfterPage
 pub mod Headers

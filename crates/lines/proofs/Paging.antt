@@ -28,14 +28,15 @@ use Rattle.reading.proofs.Gathering.{prepend, prepend-none}
 use Rattle.reading.proofs.ItemSteps.{resumed, words-turn, words-over}
 use Rattle.reading.proofs.Numbered.{taken-value, refused-void}
 use Rattle.reading.proofs.Started.{begun, start-refused}
+use Rattle.text.specs.Text.{wordsText, startText, wordText}
+use Rattle.text.specs.Line.{Put}
+use Rattle.text.proofs.Puts.{put-none, put-more, put-as, put-length}
 use Rattle.lines.specs.declared.Page.{Page}
 use Rattle.lines.specs.declared.Sheet.{Sheet}
-use Rattle.lines.specs.Text.{wordsText, startText, blockLine, wordText}
-use Rattle.lines.specs.Line.{Put}
+use Rattle.lines.specs.Lines.{blockLine}
 use Rattle.lines.specs.Listing.{blockLines}
 use Rattle.lines.specs.Pages.{lineRoom, endOf, pageBlocks, Paged, pageIn, paged, pageTold, sheetOf, filled}
 use Rattle.lines.specs.Steps.{Filled, startedText, wordIn, itemWords}
-use Rattle.lines.proofs.Puts.{put-none, put-more, put-as, put-length}
 
 -- ---- texts and places, one more behind
 

@@ -9,10 +9,10 @@ use borrow.Author.Tests.{le-leb, lt-leb}
 use Rattle.rows.specs.Answer.{Answer, taken, refused}
 use Rattle.rows.proofs.OneAnswer.{Case, takes, refuses, one}
 use Rattle.punching.specs.Answers.{written, after}
+use Rattle.text.specs.Line.{Put}
 use Rattle.lines.specs.declared.Printed.{Printed}
 use Rattle.lines.specs.declared.Printed.the-variants.{Bytes}
 use Rattle.lines.specs.Answers.{room, lineIn, printedTold}
-use Rattle.lines.specs.Line.{Put}
 
 -- a promise of a line: the answer, what the buffer holds after, and that n bytes are within it
 abbrev pub Says : List ℕ → List ℕ → Answer ℕ → List ℕ → ℕ → Type 0

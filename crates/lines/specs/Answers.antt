@@ -8,7 +8,7 @@ use Rattle.rows.specs.Answer.{Answer, taken, refused, refusal}
 use Rattle.reading.specs.declared.Counted.{Counted}
 use Rattle.lines.specs.declared.Printed.{Printed}
 use Rattle.lines.specs.declared.Printed.the-variants.{Bytes}
-use Rattle.lines.specs.Text.{countLine, refusalLine}
+use Rattle.lines.specs.Lines.{countLine, refusalLine}
 
 -- the room that the longest last line may need: "refused", a space, 20 digits, a space, 20 digits and LF
 abbrev pub room : ℕ

@@ -1,7 +1,6 @@
--- What the crate's promises cite: the text of a listing, and what stands on the listing's input.
-pub mod Text
+-- What the crate's promises cite: the lines of a listing, and what stands on the listing's input.
+pub mod Lines
 pub mod Listing
 pub mod Pages
 pub mod Steps
 pub mod Answers
-pub mod Line

@@ -11,8 +11,9 @@ use Rattle.shorthand.specs.Layout.{emptyFormat}
 use Rattle.shorthand.specs.Parse.{parsed}
 use Rattle.reading.specs.Parse.{Entry}
 use Rattle.reading.specs.Answers.{read}
+use Rattle.text.specs.Text.{text}
 use Rattle.lines.specs.declared.Header.{Header}
-use Rattle.lines.specs.Text.{text, blockLine, countLine, refusalLine}
+use Rattle.lines.specs.Lines.{blockLine, countLine, refusalLine}
 
 -- ---- the header: edition, a space, the shorthand, LF
 

@@ -9,8 +9,8 @@ use Rattle.reading.specs.declared.Word.{Word}
 use Rattle.reading.specs.Figures.{Behind}
 use Rattle.reading.specs.Parse.{wordAt}
 use Rattle.reading.specs.Front.{rowsAt, Standing, stops, out, at, Passing, nothing, past, Begun}
+use Rattle.text.specs.Text.{startText}
 use Rattle.lines.specs.declared.Step.{Step}
-use Rattle.lines.specs.Text.{startText}
 use Rattle.lines.specs.Pages.{Paged}
 
 -- what a step read: nothing is there, or the rows behind it

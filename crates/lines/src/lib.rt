@@ -6,14 +6,15 @@ ghost use Rattle.punching.specs.Answers.{written, after};
 ghost use Rattle.lines.specs.declared.Printed.{Printed};
 ghost use Rattle.lines.specs.Answers.{lineIn, printedTold, bytesOf, closing};
 
+mod closing;
 pub mod input;
+mod many;
 pub mod pages;
-mod text;
 
+use closing::put_closing;
 use reading::Counted;
 use rows::Next;
 use rows::Refusal;
-use text::put_closing;
 
 // How many bytes were put.
 pub enum Printed {

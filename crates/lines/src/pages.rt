@@ -6,17 +6,14 @@ ghost use Rattle.rows.specs.Kept.{keptAt};
 ghost use Rattle.shorthand.specs.Facts.{Facts, Widths};
 ghost use Rattle.reading.specs.Parse.{blocksAt};
 ghost use Rattle.reading.specs.Front.{rowsAt, standing, itemAt, startAt, openedAt};
-ghost use Rattle.lines.specs.Text.{wordsText};
-ghost use Rattle.lines.specs.Line.{Put};
+ghost use Rattle.text.specs.Text.{wordsText};
+ghost use Rattle.text.specs.Line.{Put};
 ghost use Rattle.lines.specs.Pages.{lineRoom, pageBlocks, pageIn, paged, pageTold, sheetOf, filled, sizeIn};
 ghost use Rattle.lines.specs.Steps.{stepTold, stepEnd, startedText, itemWords, Filled};
 use crate::Page;
 use crate::Sheet;
 use crate::Step;
-use crate::text::put;
-use crate::text::put_many;
-use crate::text::put_start;
-use crate::text::put_word;
+use crate::many::put_many;
 use reading::EndFound;
 use reading::Reach;
 use reading::StartRead;
@@ -32,6 +29,9 @@ use rows::Next;
 use rows::Refusal;
 use shorthand::Format;
 use shorthand::Item;
+use text::put;
+use text::put_start;
+use text::put_word;
 
 // The start of the next block.
 fn start_line(tape: &[u8], digits: u8, front: Next, buffer: &mut [u8], at: usize) -> Step

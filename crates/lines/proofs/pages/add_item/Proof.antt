@@ -4,9 +4,9 @@ use mathlib.Core.List.{append-nil}
 use native.Mathlib.Omega.{arith}
 use Rattle.rows.specs.Answer.{taken, _>>=_}
 use Rattle.reading.specs.Front.{wordTold, reachTold, restOf, past, itemPassed}
-use Rattle.lines.specs.Text.{wordText, wordsText}
+use Rattle.text.specs.Text.{wordText, wordsText}
 use Rattle.lines.specs.Steps.{wordIn, itemWords}
-use Rattle.lines.proofs.Puts.{put-none, put-as}
+use Rattle.text.proofs.Puts.{put-none, put-as}
 use borrow.Author.Needs.{needs}
 use Rattle.lines.proofs.pages.add_item.Statement.{statement}
 use Rattle.lines.proofs.pages.add_item.Tie as tie

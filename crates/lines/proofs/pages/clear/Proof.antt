@@ -1,5 +1,5 @@
 -- `lines::pages::clear`: the same byte over the whole buffer.
-use Rattle.lines.proofs.Puts.{many-all}
+use Rattle.lines.proofs.Clearing.{many-all}
 use borrow.Author.Needs.{needs}
 use Rattle.lines.proofs.pages.clear.Statement.{statement}
 use Rattle.lines.proofs.pages.clear.Tie as tie

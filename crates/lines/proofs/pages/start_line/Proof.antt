@@ -5,7 +5,7 @@ use Rattle.rows.specs.Answer.{taken, _>>=_}
 use Rattle.reading.specs.Front.{rowsAt, startTold, restOf, past}
 use Rattle.reading.proofs.Started.{opened}
 use Rattle.lines.specs.Steps.{startedText}
-use Rattle.lines.proofs.Puts.{put-none, put-as}
+use Rattle.text.proofs.Puts.{put-none, put-as}
 use borrow.Author.Needs.{needs}
 use Rattle.lines.proofs.pages.start_line.Statement.{statement}
 use Rattle.lines.proofs.pages.start_line.Tie as tie

@@ -1,0 +1,35 @@
+-- `lines::closing::put_count`: one put behind another.
+use borrow.Author.Needs.{needs}
+use native.Mathlib.Omega.{arith}
+use Rattle.text.proofs.Puts.{put-more}
+use Rattle.lines.proofs.closing.put_count.Statement.{statement}
+use Rattle.lines.proofs.closing.put_count.Tie as tie
+
+slice-aggregate-put-all : tie.Need-slice-aggregate-put-all
+slice-aggregate-put-all c = search needs
+
+put-all-requires : tie.Need-put-all-requires
+put-all-requires c κs = search needs
+
+put-decimal-requires : tie.Need-put-decimal-requires
+put-decimal-requires c κs = search needs
+
+put-requires : tie.Need-put-requires
+put-requires c κs = search needs
+
+same-length : tie.Need-same-length
+same-length c = search needs
+
+returns : tie.Need-returns
+returns c = (put-more (c .before .before .before .before .before .before .before .before .before .before .put-all .ensures) (put-more (c .before .before .before .before .before .before .put-decimal .ensures .0) (c .before .before .put .ensures)), omega (arith, c .before .before .before .before .before .before .before .before .before .before .put-all .ensures .end, c .before .before .before .before .before .before .put-decimal .ensures .1, c .before .before .put .ensures .end))
+
+pub put-count-spec : {M : Type 1} → statement M
+put-count-spec =
+    tie.close
+    (tie.spec
+    slice-aggregate-put-all
+    put-all-requires
+    put-decimal-requires
+    put-requires
+    same-length
+    returns)

@@ -1,0 +1,50 @@
+-- The text of numbers, words and a block's start in a listing (document 01, "The listing program"): fields with one space between them.
+use Prim.Native.Nat.{ℕ, zero, suc, _+_, _-_, _/_, _%_}
+use Prim.Native.Char.{code}
+use Prim.Native.String.{String, [] as end, _∷_ as _then_}
+use mathlib.Core.Bool.{Bool, cond}
+use mathlib.Core.List.{List, [], _∷_, _++_}
+use lib.Dec.{ltb}
+use lib.IntN.{natAbs}
+use lib.ListN.{length}
+use Rattle.reading.specs.declared.Value.{Value}
+use Rattle.reading.specs.declared.Value.the-variants.{Number, Dimension, Speed}
+use Rattle.reading.specs.declared.Word.{Word}
+use Rattle.reading.specs.Relation.{zeros}
+use Rattle.punching.specs.Rows.{minus}
+
+-- ASCII
+abbrev pub text : String → List ℕ
+text end = []
+text (c then s) = code c ∷ text s
+
+-- a number in plain decimal, no zero in front, by its last n digits at most
+unfoldable pub decimalIn : ℕ → ℕ → List ℕ
+decimalIn zero v = []
+decimalIn (suc n) v = cond (ltb v 10) ((48 + v) ∷ []) (decimalIn n (v / 10) ++ ((48 + v % 10) ∷ []))
+
+-- 20 digits hold every number of 64 bits
+abbrev pub decimal : ℕ → List ℕ
+decimal v = decimalIn 20 v
+
+-- at full length: zeros in front up to n digits
+abbrev pub full : ℕ → ℕ → List ℕ
+full n v = zeros (n - length (decimal v)) ++ decimal v
+
+-- plain decimal, a minus before a negative dimension; speeds in units
+abbrev pub valueText : Value → List ℕ
+valueText (Number v) = decimal v
+valueText (Dimension z) = cond (minus z) (45 ∷ []) [] ++ decimal (natAbs z)
+valueText (Speed v) = decimal v
+
+-- a space, the letter, the value
+abbrev pub wordText : Word → List ℕ
+wordText w = 32 ∷ w .letter ∷ valueText (w .value)
+
+abbrev pub wordsText : List Word → List ℕ
+wordsText [] = []
+wordsText (w ∷ ws) = wordText w ++ wordsText ws
+
+-- N or ":", the sequence number at its full n digits, "/" or "-"
+abbrev pub startText : ℕ → Bool → Bool → ℕ → List ℕ
+startText n skip alignment v = (cond alignment 58 78 ∷ 32 ∷ []) ++ (full n v ++ (32 ∷ cond skip 47 45 ∷ []))
