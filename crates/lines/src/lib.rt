@@ -2,9 +2,8 @@
 ghost use mathlib.Core.Path.{_≡_};
 ghost use Prim.Native.Nat.{_≤_};
 ghost use lib.ListN.{length};
-ghost use Rattle.punching.specs.Answers.{written, after};
-ghost use Rattle.lines.specs.declared.Printed.{Printed};
-ghost use Rattle.lines.specs.Answers.{lineIn, printedTold, bytesOf, closing};
+ghost use Rattle.punching.specs.Answers.{roomFor, written, after};
+ghost use Rattle.lines.specs.Answers.{printedTold, bytesOf, closing};
 
 mod closing;
 pub mod input;
@@ -15,6 +14,7 @@ use closing::put_closing;
 use reading::Counted;
 use rows::Next;
 use rows::Refusal;
+use text::put_all;
 
 // How many bytes were put.
 pub enum Printed {
@@ -49,26 +49,22 @@ pub struct Header {
     pub rows: usize,
 }
 
-// The room that the longest last line may need.
-pub const ROOM: usize = 50;
+// The room that every last line can be put in: "refused", a space, 20 digits, a space, 20 digits and LF.
+const ROOM: usize = 50;
 
-fn no_room() -> Printed
-    ensures { λ r. ⌜ r ≡ Printed.Refused (record { number = 19; place = 50 }) ⌝ }
-{
-    Printed::Refused(Refusal {
-        number: 19,
-        place: ROOM,
-    })
-}
-
-// The last line: the count of the blocks, or the refusal.
+// The last line: the count of the blocks, or the refusal. It is composed whole before the buffer is touched.
 pub fn last_line(count: Counted, buffer: &mut [u8]) -> Printed
-    ensures bytes { λ r. ⌜ printedTold r ≡ written (lineIn (now (buffer .entry)) (closing count)) ⌝ }
-    ensures buffer { λ r. ⌜ now (buffer .exit) ≡ after (now (buffer .entry)) (lineIn (now (buffer .entry)) (closing count)) ⌝ }
+    ensures bytes { λ r. ⌜ printedTold r ≡ written (roomFor (now (buffer .entry)) (closing count)) ⌝ }
+    ensures buffer { λ r. ⌜ now (buffer .exit) ≡ after (now (buffer .entry)) (roomFor (now (buffer .entry)) (closing count)) ⌝ }
     ensures within { λ r. ⌜ bytesOf r ≤ length (now (buffer .entry)) ⌝ }
 {
-    if buffer.len() < ROOM {
-        return no_room();
+    let mut line = [0u8; ROOM];
+    let size = put_closing(&mut line, count);
+    if buffer.len() < size {
+        return Printed::Refused(Refusal {
+            number: 19,
+            place: size,
+        });
     }
-    Printed::Bytes(put_closing(buffer, count))
+    Printed::Bytes(put_all(buffer, 0, &line[..size]))
 }
