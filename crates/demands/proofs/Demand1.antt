@@ -11,6 +11,8 @@ use borrow.Author.Tests.{leb-false, ltb-false}
 use Rattle.rows.specs.Answer.{Answer, taken, refused, _>>=_, valueOr}
 use Rattle.rows.specs.Kept.{KeptRow, kept}
 use Rattle.rows.specs.Stages.{limit, judged}
+use Rattle.rows.proofs.Outcomes.{Holds, refusal, value, holds-map, holds-bind, holds-then, holds-cond, wider}
+use Rattle.rows.proofs.RowRefusals.{RowTable, row-refusals}
 use Rattle.speeds.specs.Meaning.{speedFor}
 use Rattle.speeds.specs.Coding.{codeFor}
 use Rattle.speeds.proofs.Answers.{speed-answers, code-answers}
@@ -24,13 +26,11 @@ use Rattle.reading.specs.Record.{emptyBlock}
 use Rattle.reading.specs.Parse.{Entry}
 use Rattle.reading.specs.Front.{Rising, over, rise}
 use Rattle.reading.specs.Answers.{nowhere, nth, programAt, read, readUnder, entryNumbered, counted, blockNumbered, rowsNumbered}
-use Rattle.reading.proofs.Outcomes.{Holds, refusal, value, holds-map, holds-bind, holds-cond}
 use Rattle.reading.proofs.Places.{kept-rising}
 use Rattle.reading.proofs.Refusals.{AtRow, Listed, refusals}
 use Rattle.punching.specs.Answers.{headPunched, blockFor, blockPunched, after}
 use Rattle.punching.proofs.Records.{Fault, WordRefusal}
 use Rattle.punching.proofs.Refusals.{Barred, refused-only}
-use Rattle.demands.proofs.RowRefusals.{RowTable, holds-then, row-refusals}
 
 -- the refusal table, for the shorthand s and the tape t: each number with its places
 pub data Reading (s t : List ℕ) : ℕ → ℕ → Type 0 where
@@ -44,11 +44,6 @@ pub data Reading (s t : List ℕ) : ℕ → ℕ → Type 0 where
 -- an answer, whatever was handed over: something taken, or a refusal of the table
 abbrev pub Answered : {A : Type 0} → (ℕ → ℕ → Type 0) → Answer A → Type 0
 Answered table a = Holds table (λ x. Unit {0}) a
-
--- another table that has every row of the first
-wider : {A : Type 0} {P Q : ℕ → ℕ → Type 0} {R : A → Type 0} {a : Answer A} → ((n p : ℕ) → P n p → Q n p) → Holds P R a → Holds Q R a
-wider f (refusal {n = n} {p = p} h) = refusal (f n p h)
-wider f (value h) = value h
 
 module _ (s t : List ℕ) where
   of-shorthand : {n p : ℕ} → ((n ≡ 1) × (p ≡ 0)) ⊎ (((n ≡ 2) ⊎ (n ≡ 3)) × (p ≤ length s)) → Reading s t n p

@@ -1,5 +1,4 @@
 -- The user's three demands, a file for each, in the order of his sentences.
-pub mod RowRefusals
 pub mod Demand1
 pub mod Demand2
 pub mod Demand3

@@ -10,6 +10,7 @@ use lib.ListN.{length, length-take}
 use borrow.Author.Tests.{ltb-true, ltb-false, leb-true, leb-false, eqb-true}
 use Rattle.rows.specs.Row.{among}
 use Rattle.rows.specs.Answer.{taken, refused, _>>_}
+use Rattle.rows.proofs.Outcomes.{Holds, refusal, value, holds-map, of-taken, of-refused}
 use Rattle.speeds.specs.declared.Exact.{Exact}
 use Rattle.speeds.specs.declared.Exact.the-variants.{Inexact, Means}
 use Rattle.speeds.specs.Coding.{exactFor}
@@ -30,7 +31,6 @@ use Rattle.reading.specs.Record.{wordsOf}
 use Rattle.reading.specs.Figures.{mayStand}
 use Rattle.reading.specs.Relation.{digits, Punched, in-full, front, back, Signed, never, plus, minus-stands, plus-stands, Data, number, speed, dimension, word, address, tab, Words, done, out, here, lf, Blocked, block}
 use Rattle.reading.proofs.DigitRows.{digits-length}
-use Rattle.reading.proofs.Outcomes.{Holds, refusal, value, holds-map, of-taken, of-refused}
 use Rattle.punching.specs.Rows.{minus, signRows, codeRows, dataRows, wordRows, blockChars, cleared}
 use Rattle.punching.specs.Fits.{Fit, unless, coded, valueFits, wordsFit, recordFits}
 

@@ -8,10 +8,10 @@ use lib.Dec.{leb}
 use lib.ListN.{length}
 use borrow.Author.Tests.{leb-true, leb-false, le-leb}
 use Rattle.rows.specs.Answer.{Answer, taken, refused, _>>=_, _>>_}
+use Rattle.rows.proofs.Outcomes.{Holds, refusal, value, holds-cond, of-taken, of-refused}
 use Rattle.shorthand.specs.declared.Format.{Format}
 use Rattle.shorthand.specs.Parse.{parsed}
 use Rattle.reading.specs.declared.Block.{Block}
-use Rattle.reading.proofs.Outcomes.{Holds, refusal, value, holds-cond, of-taken, of-refused}
 use Rattle.punching.specs.Rows.{rowsOf}
 use Rattle.punching.specs.Fits.{Fit, recordFits}
 use Rattle.punching.specs.Answers.{roomFor, blockFor, blockPunched}

@@ -7,6 +7,8 @@ pub mod Entry
 pub mod Parity
 pub mod Formed
 pub mod OneAnswer
+pub mod Outcomes
 pub mod Judged
 pub mod StageOrder
+pub mod RowRefusals
 pub mod KeptRows

@@ -5,16 +5,15 @@ use mathlib.Core.Bool.{Bool, true, false, _||_, cond}
 use mathlib.Core.List.{List, [], _∷_}
 use lib.Dec.{eqb, ltb, lit≤}
 use lib.ListN.{length}
-use Rattle.rows.specs.Answer.{Answer, _>>_}
 use Rattle.rows.specs.Row.{character, entry}
-use Rattle.rows.specs.Stages.{limit, lowest, outside, inside, spoilt, step, unclosed, goOn, scan, refuseAt, judged}
+use Rattle.rows.specs.Stages.{limit, lowest, step, goOn, scan, refuseAt, judged}
 use Rattle.rows.specs.declared.Found.{Found}
 use Rattle.rows.specs.declared.Found.the-variants.{Nowhere, At}
 use Rattle.rows.specs.declared.Side.{Side}
 use Rattle.rows.specs.declared.Side.the-variants.{Outside, Inside, Spoilt}
 use Rattle.rows.specs.declared.Step.{Step}
 use Rattle.rows.specs.declared.Step.the-variants.{On, Fault}
-use Rattle.reading.proofs.Outcomes.{Holds, refusal, value, holds-cond}
+use Rattle.rows.proofs.Outcomes.{Holds, refusal, value, holds-then, holds-cond}
 
 -- below n, if anywhere
 data Below (n : ℕ) : Found → Type 0 where
@@ -70,11 +69,6 @@ pub data RowTable (t : List ℕ) : ℕ → ℕ → Type 0 where
 stage-holds : (t : List ℕ) (n : ℕ) → 5 ≤ n → n ≤ 7 → {x : Found} → Below (length t) x → Holds (RowTable t) (λ u. Unit {0}) (refuseAt n x)
 stage-holds t n l h nowhere = value tt
 stage-holds t n l h (at q) = refusal (at-row l h q)
-
--- one stage, and then the next
-pub holds-then : {Q : ℕ → ℕ → Type 0} {A : Type 0} {R : A → Type 0} {x : Answer (Unit {0})} {y : Answer A} → Holds Q (λ u. Unit {0}) x → Holds Q R y → Holds Q R (x >> y)
-holds-then (refusal h) k = refusal h
-holds-then (value h) k = k
 
 pub row-refusals : (t : List ℕ) → Holds (RowTable t) (λ u. Unit {0}) (judged t)
 unfolding judged
