@@ -10,7 +10,7 @@ use Rattle.rows.specs.Row.{character, among}
 use Rattle.rows.specs.Kept.{KeptRow, stays, keptFrom}
 use Rattle.rows.specs.ControlOut.{Remark, WellFormed, end, row, remark}
 use Rattle.rows.proofs.Formed.{not-among}
-use Rattle.punching.proofs.Appended.{past-remark}
+use Rattle.rows.proofs.KeptRows.{past-remark}
 
 -- the rows u of t stand before the kept row r, and v behind it
 pub record CutAt (t : List ℕ) (i : ℕ) (b : List KeptRow) (r : KeptRow) : Type 0 where

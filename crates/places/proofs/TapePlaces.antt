@@ -11,6 +11,8 @@ use Rattle.rows.specs.Answer.{refused}
 use Rattle.rows.specs.Kept.{KeptRow, keptFrom, kept}
 use Rattle.rows.specs.ControlOut.{WellFormed, end, row}
 use Rattle.rows.specs.Passes.{Every, Passes}
+use Rattle.rows.proofs.Every.{every-append}
+use Rattle.rows.proofs.TapesJoined.{formed-append, kept-append}
 use Rattle.shorthand.specs.declared.Kind.{Kind}
 use Rattle.shorthand.specs.declared.Format.{Format}
 use Rattle.shorthand.specs.Facts.{Widths, Facts}
@@ -26,9 +28,8 @@ use Rattle.reading.proofs.Outcomes.{chars-append}
 use Rattle.reading.proofs.DigitRows.{digits-length}
 use Rattle.reading.proofs.Places.{kept-rising}
 use Rattle.punching.specs.Rows.{rowOf}
-use Rattle.punching.proofs.PunchedRows.{Bare, every-append, block-bare}
+use Rattle.punching.proofs.PunchedRows.{Bare, block-bare}
 use Rattle.punching.proofs.PunchedTapes.{chars-punched, rows-pass}
-use Rattle.punching.proofs.Appended.{formed-append, kept-append}
 use Rattle.places.specs.Begins.{Begins}
 use Rattle.places.specs.Faults.{EndDue, Misfit, Refusal, at-row, at-cr, at-address, at-length}
 use Rattle.places.specs.Tapes.{Opens, Shuts, TapePlace, first-wrong, cr-alone, unsaid, ended}

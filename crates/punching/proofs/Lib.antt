@@ -3,7 +3,6 @@ pub mod Ranges
 pub mod Records
 pub mod Refusals
 pub mod PunchedRows
-pub mod Appended
 pub mod PunchedTapes
 pub mod FitRecords
 pub mod Lines

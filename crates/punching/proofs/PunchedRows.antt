@@ -13,7 +13,7 @@ use Rattle.rows.specs.Kept.{keptFrom}
 use Rattle.rows.specs.ControlOut.{WellFormed, end, row}
 use Rattle.rows.specs.Passes.{Every, Passes}
 use Rattle.rows.specs.Stages.{limit}
-use Rattle.rows.proofs.Every.{every-map}
+use Rattle.rows.proofs.Every.{every-map, every-append}
 use Rattle.rows.proofs.Formed.{not-among}
 use Rattle.shorthand.specs.declared.Missing.{Missing}
 use Rattle.shorthand.specs.declared.Kind.{Kind}
@@ -106,10 +106,6 @@ punched-pass cs all h =
     record { short = rw length-map h; even = punched-even cs all; known = punched-known cs all; formed = punched-formed cs all }
 
 -- ---- the characters that a block stands as
-
-pub every-append : {A : Type 0} (P : A → Type 0) (xs ys : List A) → Every P xs → Every P ys → Every P (xs ++ ys)
-every-append P [] ys p q = q
-every-append P (x ∷ xs) ys p q = (p .0, every-append P xs ys (p .1) q)
 
 joined : (xs ys : List ℕ) → Bare xs → Bare ys → Bare (xs ++ ys)
 joined xs ys p q = every-append (λ c. T (bare c)) xs ys p q

@@ -10,6 +10,7 @@ use Rattle.rows.specs.Kept.{kept}
 use Rattle.rows.specs.ControlOut.{WellFormed}
 use Rattle.rows.specs.Passes.{Every, Passes}
 use Rattle.rows.specs.Stages.{limit}
+use Rattle.rows.proofs.TapesJoined.{passes-append, kept-append}
 use Rattle.shorthand.specs.declared.Format.{Format}
 use Rattle.shorthand.specs.Facts.{Facts}
 use Rattle.shorthand.specs.Lawful.{Lawful}
@@ -28,7 +29,6 @@ use Rattle.punching.specs.Fits.{recordFits}
 use Rattle.punching.specs.Answers.{blockPunched}
 use Rattle.punching.proofs.Records.{punched-stands}
 use Rattle.punching.proofs.PunchedRows.{Bare, punched-kept, punched-pass, block-bare}
-use Rattle.punching.proofs.Appended.{passes-append, kept-append}
 use Rattle.punching.proofs.Refusals.{block-written}
 
 -- ---- blocks behind a program

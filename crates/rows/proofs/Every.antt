@@ -1,5 +1,5 @@
 -- Laws of what holds of every element of a list.
-use mathlib.Core.List.{List, [], _∷_}
+use mathlib.Core.List.{List, [], _∷_, _++_}
 use Prim.Native.Nat.{ℕ, zero, suc, _<_}
 use native.Mathlib.Nat.{le-of-suc-le-suc, not-suc-le-zero}
 use lib.ListN.{length, getD}
@@ -18,3 +18,7 @@ module _ {A : Type 0} where
   pub every-both : (P Q : A → Type 0) (xs : List A) → Every P xs → Every Q xs → Every (λ a. P a × Q a) xs
   every-both P Q [] p q = tt
   every-both P Q (x ∷ xs) p q = ((p .0, q .0), every-both P Q xs (p .1) (q .1))
+
+  pub every-append : (P : A → Type 0) (xs ys : List A) → Every P xs → Every P ys → Every P (xs ++ ys)
+  every-append P [] ys p q = q
+  every-append P (x ∷ xs) ys p q = (p .0, every-append P xs ys (p .1) q)

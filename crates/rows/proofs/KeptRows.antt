@@ -87,15 +87,14 @@ module _ (t : List ℕ) (at : ℕ) where
             character = sym ec ∙ ap character (getD-drop at t k 0 ∙ ap (λ i. getD t i 0) er);
           }
 
--- ---- which characters are kept
-
 -- past a remark and its ")" the kept rows are those of what follows
-past-remark : {r : List ℕ} → Remark r → (c : ℕ) → character c ≡ 41 → (t : List ℕ) (i : ℕ) → (j : ℕ) × (keptFrom true i (r ++ (c ∷ t)) ≡ keptFrom false j t)
+pub past-remark : {r : List ℕ} → Remark r → (c : ℕ) → character c ≡ 41 → (t : List ℕ) (i : ℕ) → keptFrom true i (r ++ (c ∷ t)) ≡ keptFrom false (i + suc (length r)) t
 unfolding keptFrom
-past-remark empty c e t i = (suc i, rw e)
-past-remark (more {b = b} h m) c e t i =
-    let rest = past-remark m c e t (suc i) in
-    (rest .0, rw (not-among (character b) 41 (58 ∷ 37 ∷ []) h .0) (rest .1))
+past-remark empty c e t i = rw (e, add-suc, add-zero)
+past-remark (more {b = b} {r = r} h m) c e t i =
+    rw (not-among (character b) 41 (58 ∷ 37 ∷ []) h .0, past-remark m c e t (suc i), add-suc i (suc (length r)), suc-add)
+
+-- ---- which characters are kept
 
 -- neither NUL, DEL, "(" nor ")"
 abbrev pub Plain : KeptRow → Type 0
@@ -114,7 +113,7 @@ unfolding keptFrom
 formed-plain end i = tt
 formed-plain (row {b = b} {t = t} h w) i =
     plain-row (character b) i _ h (rw (not-among (character b) 40 (41 ∷ []) h .0) (formed-plain w (suc i))) (eqb (character b) 0) (eqb (character b) 127) refl refl
-formed-plain (remark {t = t} c e m f w) i = let rest = past-remark m c f t (suc i) in rw (e, rest .1) (formed-plain w (rest .0))
+formed-plain (remark {r = r} {t = t} c e m f w) i = rw (e, past-remark m c f t (suc i)) (formed-plain w (suc i + suc (length r)))
 
 -- the kept rows of a tape that passes have neither NUL, DEL, "(" nor ")"
 pub kept-plain : {t : List ℕ} → Passes t → Every Plain (kept t)

@@ -12,3 +12,4 @@ pub mod Judged
 pub mod StageOrder
 pub mod RowRefusals
 pub mod KeptRows
+pub mod TapesJoined

@@ -7,13 +7,14 @@ use native.Mathlib.Nat.{add-zero, add-suc, suc-add}
 use native.Mathlib.Omega.{arith}
 use lib.Dec.{eqb}
 use lib.ListN.{length, length-append}
 use Rattle.rows.specs.Row.{character}
 use Rattle.rows.specs.Kept.{keptFrom}
-use Rattle.rows.specs.ControlOut.{Remark, empty, more, WellFormed, end, row, remark}
+use Rattle.rows.specs.ControlOut.{WellFormed, end, row, remark}
 use Rattle.rows.specs.Passes.{Passes}
 use Rattle.rows.specs.Stages.{limit}
+use Rattle.rows.proofs.Every.{every-append}
 use Rattle.rows.proofs.Formed.{not-among}
-use Rattle.punching.proofs.PunchedRows.{every-append}
+use Rattle.rows.proofs.KeptRows.{past-remark}
 
 pub formed-append : {t u : List ℕ} → WellFormed t → WellFormed u → WellFormed (t ++ u)
 formed-append end v = v
@@ -31,13 +32,6 @@ passes-append {t} {u} p q h =
     }
 
 -- ---- kept rows
-
--- past a remark and its ")" the kept rows are those of what follows
-pub past-remark : {r : List ℕ} → Remark r → (c : ℕ) → character c ≡ 41 → (t : List ℕ) (i : ℕ) → keptFrom true i (r ++ (c ∷ t)) ≡ keptFrom false (i + suc (length r)) t
-unfolding keptFrom
-past-remark empty c e t i = rw (e, add-suc, add-zero)
-past-remark (more {b = b} {r = r} h m) c e t i =
-    rw (not-among (character b) 41 (58 ∷ 37 ∷ []) h .0, past-remark m c e t (suc i), add-suc i (suc (length r)), suc-add)
 
 cond-append : {A : Type 0} (x : Bool) (a : A) (s u : List A) → cond x (a ∷ (s ++ u)) (s ++ u) ≡ cond x (a ∷ s) s ++ u
 cond-append true a s u = refl
