@@ -12,6 +12,7 @@ use borrow.Author.Tests.{eqb-true}
 use Rattle.rows.specs.Answer.{taken}
 use Rattle.rows.specs.Kept.{KeptRow}
 use Rattle.rows.specs.Passes.{Every}
+use Rattle.rows.proofs.Outcomes.{Holds, refusal, value, holds-map, holds-bind, holds-cond, holds-with}
 use Rattle.shorthand.specs.declared.Missing.the-variants.{Nothing}
 use Rattle.shorthand.specs.declared.Format.{Format}
 use Rattle.shorthand.specs.Layout.{itemsOf}
@@ -20,7 +21,7 @@ use Rattle.reading.specs.Relation.{End, lf, cr-lf, skipRows, Blocked, bl
 use Rattle.reading.specs.Figures.{Behind, fronts, behind, afterCR, ended}
 use Rattle.reading.specs.Parse.{BlockRead, sequenced, blockAt, headAt, Entry, blocksAt}
 use Rattle.reading.specs.Answers.{programAt}
-use Rattle.reading.proofs.Outcomes.{Holds, refusal, value, holds-map, holds-bind, holds-cond, holds-with, Reads, Table, Placed, next-row, placed-behind, chars-append, wrong-told, reads-done, reads-map, reads-after, reads-then}
+use Rattle.reading.proofs.Outcomes.{Reads, Table, Placed, next-row, placed-behind, chars-append, wrong-told, reads-done, reads-map, reads-after, reads-then}
 use Rattle.reading.proofs.Runs.{figures-read}
 use Rattle.reading.proofs.ReadData.{either, punched-full, Sayable}
 use Rattle.reading.proofs.ReadWords.{Fronted, fronted, words-read}

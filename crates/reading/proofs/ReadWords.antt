@@ -6,11 +6,12 @@ use mathlib.Core.List.{List, [], _∷_, _++_, append-nil}
 use borrow.Author.Tests.{eqb-true}
 use Rattle.rows.specs.Kept.{KeptRow}
 use Rattle.rows.specs.Passes.{Every}
+use Rattle.rows.proofs.Outcomes.{Holds, holds-cond}
 use Rattle.shorthand.specs.declared.Item.{Item}
 use Rattle.reading.specs.Relation.{Worded, word, tab, Words, done, out, here, chars}
 use Rattle.reading.specs.Figures.{fronts, behind, frontPlace}
 use Rattle.reading.specs.Parse.{wordAt, steps, stepped, wordsAt}
-use Rattle.reading.proofs.Outcomes.{Holds, holds-cond, Reads, Table, Placed, next-row, chars-append, reads-done, reads-map, reads-after, reads-then}
+use Rattle.reading.proofs.Outcomes.{Reads, Table, Placed, next-row, chars-append, reads-done, reads-map, reads-after, reads-then}
 use Rattle.reading.proofs.ReadData.{Sayable, data-read}
 
 -- the row c at the front, and the rows behind it

@@ -9,6 +9,7 @@ use borrow.Author.Tests.{le-leb, lt-ltb}
 use Rattle.rows.specs.Answer.{refused}
 use Rattle.rows.specs.Kept.{KeptRow}
 use Rattle.rows.specs.Passes.{Every}
+use Rattle.rows.proofs.Outcomes.{Holds, refusal, value, holds-cond, of-refused}
 use Rattle.speeds.specs.Meaning.{speedFor, secondZero}
 use Rattle.shorthand.specs.declared.Kind.{Kind}
 use Rattle.shorthand.specs.declared.Kind.the-variants.{Plain}
@@ -16,7 +17,7 @@ use Rattle.shorthand.specs.declared.Item.{Item}
 use Rattle.shorthand.specs.declared.Format.{Format}
 use Rattle.shorthand.specs.Facts.{Widths, Fair, none, more, Facts}
 use Rattle.reading.specs.Answers.{programAt}
-use Rattle.reading.proofs.Outcomes.{Holds, refusal, value, holds-cond, of-refused, Table, Placed, no-row, next-row}
+use Rattle.reading.proofs.Outcomes.{Table, Placed, no-row, next-row}
 use Rattle.reading.proofs.ReadData.{Sayable}
 use Rattle.reading.proofs.ReadBlocks.{program-read}
 

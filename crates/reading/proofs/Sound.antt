@@ -6,6 +6,7 @@ use mathlib.Core.List.{List, [], _∷_, map}
 use Rattle.rows.specs.Answer.{Answer, taken, refused}
 use Rattle.rows.specs.Kept.{KeptRow}
 use Rattle.rows.specs.Passes.{Every}
+use Rattle.rows.proofs.Outcomes.{Holds, refusal, value, of-taken}
 use Rattle.speeds.specs.Meaning.{speedFor}
 use Rattle.shorthand.specs.declared.Kind.{Kind}
 use Rattle.shorthand.specs.declared.Kind.the-variants.{Plain}
@@ -16,7 +17,7 @@ use Rattle.reading.specs.Relation.{Blocks, none, more, Program, program,
 use Rattle.reading.specs.Figures.{Behind}
 use Rattle.reading.specs.Parse.{BlockRead, blockAt, headAt, Entry}
 use Rattle.reading.specs.Answers.{programAt}
-use Rattle.reading.proofs.Outcomes.{Holds, refusal, value, of-taken, Reads, Placed, no-row, next-row, chars-append}
+use Rattle.reading.proofs.Outcomes.{Reads, Placed, no-row, next-row, chars-append}
 use Rattle.reading.proofs.ReadData.{Sayable}
 use Rattle.reading.proofs.ReadBlocks.{BlockRows, block-read, HeadRows, head-read, Entries, ProgramRows, program-read}
 
