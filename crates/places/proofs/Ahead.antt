@@ -7,6 +7,7 @@ use mathlib.Core.List.{List, [], _∷_, _++_, append-nil, append-assoc}
 use lib.ListN.{length, length-replicate}
 use lib.IntN.{ℤ, pos, negℤ}
 use Rattle.rows.specs.Passes.{Every}
+use Rattle.rows.proofs.Every.{every-append}
 use Rattle.shorthand.specs.declared.Missing.the-variants.{Nothing}
 use Rattle.shorthand.specs.declared.Kind.{Kind}
 use Rattle.shorthand.specs.declared.Kind.the-variants.{Plain}
@@ -21,7 +22,7 @@ use Rattle.reading.proofs.ReadData.{barred-none}
 use Rattle.punching.proofs.PunchedTapes.{program-append}
 use Rattle.places.specs.Begins.{Digit, Begins, Closes, Due}
 use Rattle.places.specs.Faults.{numberRows, Spoilt}
-use Rattle.places.proofs.DigitLists.{zeros-digit, every-append, coded, padded, padded-length}
+use Rattle.places.proofs.DigitLists.{zeros-digit, coded, padded, padded-length}
 use Rattle.places.proofs.SpeedDigits.{Means, saved}
 use Rattle.places.proofs.WordStops.{Some, stands}
 use Rattle.places.proofs.WordsStops.{DueIn, SomeWords}
@@ -70,7 +71,7 @@ module _ {f : Format} {bs : List Block} {h : List ℕ} (p : Program f bs h) wher
   number-begins skip alignment ds all most =
       let j = f .sequence - length ds in
       let full = ds ++ zeros j in
-      let o = opened-digits skip alignment full (every-append ds (zeros j) all (zeros-digit j)) (padded-length (f .sequence) ds most) in
+      let o = opened-digits skip alignment full (every-append Digit ds (zeros j) all (zeros-digit j)) (padded-length (f .sequence) ds most) in
       closes-begins (h ++ numberRows skip alignment ds) (zeros j) (h ++ (numberRows skip alignment full ++ [])) (words-close o ([], done)) (simp (append-assoc, append-nil))
 
   pub start-begins : (skip : Bool) → Begins f (h ++ skipRows skip)

@@ -10,6 +10,7 @@ use lib.ListN.{length, length-append, length-replicate}
 use lib.Dec.{leb, lit<, lit≤}
 use borrow.Author.Tests.{leb-true}
 use Rattle.rows.specs.Passes.{Every}
+use Rattle.rows.proofs.Every.{every-append}
 use Rattle.shorthand.specs.declared.Missing.{Missing}
 use Rattle.shorthand.specs.declared.Missing.the-variants.{Nothing, Leading, Trailing}
 use Rattle.reading.specs.Relation.{digits, zeros, Punched, in-full, front, back}
@@ -25,10 +26,6 @@ digit-is c e = let p = and-eq-true-iff (leb 48 c) (leb c 57) .0 e in (leb-true 4
 
 pub no-digit : (c : ℕ) → isDigit c ≡ false → Digit c → ⊥
 no-digit c e h = false≢true (sym e ∙ is-digit c h)
-
-pub every-append : (xs ys : List ℕ) → Every Digit xs → Every Digit ys → Every Digit (xs ++ ys)
-every-append [] ys p q = q
-every-append (x ∷ xs) ys p q = (p .0, every-append xs ys (p .1) q)
 
 pub zeros-digit : (j : ℕ) → Every Digit (zeros j)
 zeros-digit zero = tt
@@ -60,11 +57,11 @@ some-punched Nothing n ds all least most =
     (c .0, subst (λ l. Punched n (c .0) Nothing l) (sym (c .2)) (in-full (c .1)))
 some-punched Leading n ds all least most =
     let j = n - length ds in
-    let c = coded n (zeros j ++ ds) (every-append (zeros j) ds (zeros-digit j) all) (simp (length-append, length-replicate) (omega arith)) in
+    let c = coded n (zeros j ++ ds) (every-append Digit (zeros j) ds (zeros-digit j) all) (simp (length-append, length-replicate) (omega arith)) in
     (c .0, front j (c .1) (sym (c .2)) least)
 some-punched Trailing n ds all least most =
     let j = n - length ds in
-    let c = coded n (ds ++ zeros j) (every-append ds (zeros j) all (zeros-digit j)) (simp (length-append, length-replicate) (omega arith)) in
+    let c = coded n (ds ++ zeros j) (every-append Digit ds (zeros j) all (zeros-digit j)) (simp (length-append, length-replicate) (omega arith)) in
     (c .0, back j (c .1) (sym (c .2)) least)
 
 pub fewest-most : (z : Missing) (n : ℕ) → 1 ≤ n → fewest z n ≤ n
@@ -84,4 +81,4 @@ padded-length n ds most = simp (length-append, length-replicate) (omega arith)
 pub padded : (z : Missing) (n : ℕ) (ds : List ℕ) → Every Digit ds → 1 ≤ n → length ds ≤ n → (v : ℕ) × Punched n v z (ds ++ zeros (n - length ds))
 padded z n ds all some most =
     let e = padded-length n ds most in
-    some-punched z n (ds ++ zeros (n - length ds)) (every-append ds _ all (zeros-digit (n - length ds))) (omega (arith, fewest-most z n some)) (omega arith)
+    some-punched z n (ds ++ zeros (n - length ds)) (every-append Digit ds _ all (zeros-digit (n - length ds))) (omega (arith, fewest-most z n some)) (omega arith)

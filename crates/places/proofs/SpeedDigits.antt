@@ -12,6 +12,7 @@ use lib.Dec.{eqb, ltb, lit≤}
 use borrow.Author.Tests.{ne-eqb, eqb-true, eqb-false, le-leb, lt-ltb, le-ltb}
 use Rattle.rows.specs.Answer.{taken, refused}
 use Rattle.rows.specs.Passes.{Every}
+use Rattle.rows.proofs.Every.{every-append}
 use Rattle.speeds.specs.Meaning.{codeLength, meaning, secondZero, speedFor}
 use Rattle.shorthand.specs.declared.Kind.{Kind}
 use Rattle.reading.specs.declared.Value.{Value}
@@ -19,7 +20,7 @@ use Rattle.reading.specs.Relation.{digits, zeros, Data, speed}
 use Rattle.reading.proofs.Runs.{digits-front, digits-leading}
 use Rattle.places.specs.Begins.{Digit}
 use Rattle.places.specs.Faults.{Spoilt}
-use Rattle.places.proofs.DigitLists.{every-append, zeros-digit, coded}
+use Rattle.places.proofs.DigitLists.{zeros-digit, coded}
 
 and-false : (b : Bool) → (b && false) ≡ false
 and-false true = refl
@@ -96,7 +97,7 @@ module _ (k : ℕ) (low : 3 ≤ k) (high : k ≤ 5) where
 
       go : (b : Bool) → eqb e 48 ≡ b → ((more : List ℕ) × Means k low high ((d ∷ e ∷ ds) ++ more)) ⊎ Spoilt (d ∷ e ∷ ds)
       go false n =
-          inl (more, second-means k low high d e (ds ++ more) (all .0) (all .1 .0) (eqb-false e 48 n) (every-append ds more (all .1 .1) (zeros-digit (k - length (d ∷ e ∷ ds)))) (simp (length-append, length-replicate) (omega arith)))
+          inl (more, second-means k low high d e (ds ++ more) (all .0) (all .1 .0) (eqb-false e 48 n) (every-append Digit ds more (all .1 .1) (zeros-digit (k - length (d ∷ e ∷ ds)))) (simp (length-append, length-replicate) (omega arith)))
       go true y = zero-go (all-zero (d ∷ e ∷ ds))
         where
           zero-go : Every (λ c. c ≡ 48) (d ∷ e ∷ ds) ⊎ (Every (λ c. c ≡ 48) (d ∷ e ∷ ds) → ⊥) → ((more : List ℕ) × Means k low high ((d ∷ e ∷ ds) ++ more)) ⊎ Spoilt (d ∷ e ∷ ds)
