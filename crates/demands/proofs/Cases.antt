@@ -17,11 +17,14 @@ use Rattle.shorthand.specs.Edition.{rank, due, anyDue}
 use Rattle.shorthand.specs.Stand.{digitsOf, afterDigits, stand, standN}
 use Rattle.shorthand.specs.Parse.{itemsFrom, parsed}
 use Rattle.shorthand.proofs.Cases.{bytes}
-use Rattle.reading.specs.declared.Value.{Value}
-use Rattle.reading.specs.declared.Value.the-variants.{Number}
+use Rattle.words.specs.declared.Value.{Value}
+use Rattle.words.specs.declared.Value.the-variants.{Number}
 use Rattle.reading.specs.Record.{blank}
-use Rattle.reading.specs.Figures.{run, figures}
-use Rattle.reading.specs.Parse.{dataAt, wordsAt, blockAt, headAt, blocksAt}
+use Rattle.words.specs.Figures.{run, figures}
+use Rattle.words.specs.Data.{dataAt}
+use Rattle.reading.specs.Parse.{wordsAt, blockAt, blocksAt}
+use Rattle.parts.specs.Ends.{headAt}
+use Rattle.parts.specs.Starts.{startAt}
 use Rattle.reading.specs.Answers.{programAt, read, readUnder, blockNumbered}
 use Rattle.reading.proofs.Cases.{rows}
 
@@ -71,5 +74,5 @@ cases =
     ∷ []
 
 pub cases-hold : map (λ (c : Case). answered (c .asked)) cases ≡ map (λ (c : Case). c .answer) cases
-unfolding answered ones entry lowest scan judged keptFrom speedFor meaning codeFor rounded past pastWithin written rank due anyDue digitsOf afterDigits stand standN itemsFrom parsed run figures dataAt wordsAt blockAt headAt blocksAt programAt read readUnder
+unfolding answered ones entry lowest scan judged keptFrom speedFor meaning codeFor rounded past pastWithin written rank due anyDue digitsOf afterDigits stand standN itemsFrom parsed run figures dataAt wordsAt startAt blockAt headAt blocksAt programAt read readUnder
 cases-hold = refl

@@ -15,11 +15,11 @@ use Rattle.shorthand.specs.Layout.{itemsOf}
 use Rattle.shorthand.specs.Edition.{letters, anyOf}
 use Rattle.shorthand.specs.Facts.{Widths, Fair, none, more, Facts}
 use Rattle.shorthand.proofs.OneItem.{none-other}
-use Rattle.reading.specs.declared.Value.{Value}
-use Rattle.reading.specs.declared.Word.{Word}
+use Rattle.words.specs.declared.Value.{Value}
+use Rattle.words.specs.declared.Word.{Word}
 use Rattle.reading.specs.declared.Block.{Block}
 use Rattle.reading.specs.Relation.{digits, never, Data, speed, Worded, word, End, lf, cr-lf, sequenceRows, Program}
-use Rattle.reading.specs.Figures.{isDigit}
+use Rattle.words.specs.Figures.{isDigit}
 use Rattle.reading.proofs.DigitRows.{digits-length, digits-digit}
 use Rattle.reading.proofs.WordsTake.{fails}
 use Rattle.places.specs.Begins.{Digit, Begins}

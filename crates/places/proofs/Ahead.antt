@@ -19,7 +19,7 @@ use Rattle.reading.specs.declared.Block.{Block}
 use Rattle.reading.specs.Record.{blockOf}
 use Rattle.reading.specs.Relation.{digits, zeros, Signed, never, plus, minus, plus-stands, minus-stands, plus-missing, number, speed, dimension, done, End, lf, cr-lf, skipRows, sequenceRows, Blocked, block, Blocks, none, more, Program, program}
 use Rattle.reading.proofs.ReadData.{barred-none}
-use Rattle.punching.proofs.PunchedTapes.{program-append}
+use Rattle.reading.proofs.BlocksJoined.{program-append}
 use Rattle.places.specs.Begins.{Digit, Begins, Closes, Due}
 use Rattle.places.specs.Faults.{numberRows, Spoilt}
 use Rattle.places.proofs.DigitLists.{zeros-digit, coded, padded, padded-length}

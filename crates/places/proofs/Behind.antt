@@ -12,8 +12,8 @@ use Rattle.shorthand.specs.declared.Kind.{Kind}
 use Rattle.shorthand.specs.declared.Item.{Item}
 use Rattle.shorthand.specs.declared.Format.{Format}
 use Rattle.shorthand.specs.Layout.{Sign, itemsOf}
-use Rattle.reading.specs.declared.Value.{Value}
-use Rattle.reading.specs.declared.Word.{Word}
+use Rattle.words.specs.declared.Value.{Value}
+use Rattle.words.specs.declared.Word.{Word}
 use Rattle.reading.specs.declared.Block.{Block}
 use Rattle.reading.specs.Relation.{digits, Signed, never, plus, minus, plus-stands, minus-stands, plus-missing, Data, number, speed, dimension, Worded, tab, Words, done, out, here, End, skipRows, sequenceRows, Blocked, block, Blocks, Program, program}
 use Rattle.reading.proofs.DigitRows.{digits-digit}

@@ -8,7 +8,7 @@ use native.Mathlib.Omega.{arith}
 use lib.ListN.{length}
 use lib.Dec.{eqb}
 use borrow.Author.Tests.{eqb-true, eqb-false}
-use Rattle.rows.specs.Answer.{Answer, refused, _>>=_}
+use Rattle.rows.specs.Answer.{Answer, refused}
 use Rattle.rows.specs.Kept.{KeptRow}
 use Rattle.shorthand.specs.declared.Missing.the-variants.{Nothing}
 use Rattle.shorthand.specs.declared.Format.{Format}
@@ -17,8 +17,11 @@ use Rattle.shorthand.specs.Facts.{Facts}
 use Rattle.reading.specs.declared.Block.{Block}
 use Rattle.reading.specs.Record.{blockOf}
 use Rattle.reading.specs.Relation.{End, lf, cr-lf, skipRows, sequenceRows, Blocked, block, chars}
-use Rattle.reading.specs.Figures.{Behind, taking, fronts, behind, isDigit, digitNext, ended, figures}
-use Rattle.reading.specs.Parse.{BlockRead, wordsAt, sequenced, blockAt}
+use Rattle.words.specs.Figures.{Behind, taking, fronts, behind, isDigit, digitNext}
+use Rattle.parts.specs.Ends.{ended}
+use Rattle.parts.specs.declared.Begun.{Begun}
+use Rattle.parts.specs.Starts.{digitsAt, numberAt, startAt}
+use Rattle.reading.specs.Parse.{wordsAndEnd, blockAt}
 use Rattle.places.specs.Begins.{Digit}
 use Rattle.places.specs.Faults.{NoStart, lastOf}
 use Rattle.places.proofs.Steady.{Refuses, at-row, at-end, Goes, took, held, goes-after, goes-if, goes-map, goes-bind}
@@ -87,87 +90,85 @@ pub data BlockStop (f : Format) : ℕ → List ℕ → List ℕ → List ℕ →
 abbrev pub SomeBlock : Format → List ℕ → Type 0
 SomeBlock f u = (b : Block) × Blocked f b u
 
--- the digits of a sequence number, and what follows
-abbrev numbered : ℕ → Format → Bool → Bool → List KeptRow → Answer (Behind BlockRead)
-numbered len f skip alignment rs =
-    figures len 9 Nothing (f .sequence) rs >>= λ n. wordsAt len (f .dots) (itemsOf f) (n .rest) >>= λ ws. ended len 14 10 (ws .rest) >>= λ e.
-    taking (record { block = blockOf skip alignment (n .value) (ws .value); lf = e .value }) (e .rest)
+-- words and an end behind a start make a block
+closed : {f : Format} {s u e : List ℕ} → Opened f s → SomeWords (f .dots) (itemsOf f) u → End e → SomeBlock f (s ++ (u ++ e))
+closed {f} {u = u} {e = e} (opened {n} skip alignment small) ws end =
+    (blockOf skip alignment n (ws .0), rw (append-assoc (skipRows skip) (sequenceRows (f .sequence) alignment n) (u ++ e)) (block skip alignment small (ws .1) end))
 
-module _ (f : Format) (facts : Facts f) (len : ℕ) (skip : Bool) where
-  -- the start of a block with these digits
-  abbrev fore : Bool → List ℕ → List ℕ
-  fore alignment ds = skipRows skip ++ (cond alignment 58 78 ∷ ds)
-
-  opens : (alignment : Bool) (m : ℕ) (ds : List ℕ) {rest : List KeptRow} → Figured Nothing (f .sequence) m ds rest → Opened f (fore alignment ds)
-  opens alignment m ds h =
-      let c = coded (f .sequence) ds (h .all) (omega (arith, h .least, h .most)) in
-      subst (λ l. Opened f (fore alignment l)) (sym (c .2)) (opened skip alignment (c .1))
-
-  closed : (alignment : Bool) (m : ℕ) (ds u e : List ℕ) {rest : List KeptRow} → Figured Nothing (f .sequence) m ds rest → SomeWords (f .dots) (itemsOf f) u → End e
-      → SomeBlock f (skipRows skip ++ (cond alignment 58 78 ∷ (ds ++ (u ++ e))))
-  closed alignment m ds u e h ws end =
-      let c = coded (f .sequence) ds (h .all) (omega (arith, h .least, h .most)) in
-      (blockOf skip alignment (c .0) (ws .0), subst (λ l. Blocked f (blockOf skip alignment (c .0) (ws .0)) (fore alignment (l ++ (u ++ e)))) (sym (c .2)) (block skip alignment (c .1) (ws .1) end))
-
-  numbered-goes : (alignment : Bool) (rs : List KeptRow)
-      → Goes (numbered len f skip alignment) len (λ b v l. SomeBlock f (fore alignment v)) (λ n b ds w. BlockStop f n (fore alignment b) ds w) rs (numbered len f skip alignment rs)
-  numbered-goes alignment rs =
-      goes-bind (goes-map (λ a u l h. h) (λ n b ds w h. in-number skip alignment h) (figures-go len 9 Nothing (f .sequence) (λ e. omega arith) rs)) λ m ds rest e h.
-      goes-bind
-      (goes-map (λ a u l k. k)
-      (λ n b es w q. subst (λ x. BlockStop f n x es w) (append-assoc (skipRows skip) (cond alignment 58 78 ∷ chars ds) b) (in-words (opens alignment m (chars ds) h) q))
-      (words-go len (f .dots) (facts .fair) rest)) λ ws u rest₂ e k.
-      goes-bind
-      (goes-map (λ a v l z. z)
-      (λ n b es w q. subst (λ x. BlockStop f n x es w) (append-assoc (skipRows skip) (cond alignment 58 78 ∷ chars ds) (chars u ++ b))
-      (in-end (opens alignment m (chars ds) h) (k .0) (firm-after (fore alignment (chars ds)) u rest rest₂ e (h .apart) (k .1)) q))
-      (ended-goes len 14 10 (λ e. omega arith) rest₂)) λ p v rest₃ e z.
-      took [] refl (rw (append-nil (chars v)) (closed alignment m (chars ds) (chars u) (chars v) h (k .0) z)) (λ l e. refl)
-
-  mark-is : (c : ℕ) → (eqb c 78 || eqb c 58) ≡ true → c ≡ cond (eqb c 58) 58 78
-  mark-is c e = go (eqb c 78) refl (eqb c 58) refl e
-    where
-      go : (a : Bool) → eqb c 78 ≡ a → (b : Bool) → eqb c 58 ≡ b → (a || b) ≡ true → c ≡ cond b 58 78
-      go a x true y e = eqb-true c 58 y
-      go true x false y e = eqb-true c 78 x
-      go false x false y e = absurd (false≢true e)
-
-  not-marked : (c : ℕ) → (eqb c 78 || eqb c 58) ≡ false → (c ≡ 78 → ⊥) × (c ≡ 58 → ⊥)
-  not-marked c e = go (eqb c 78) refl (eqb c 58) refl e
-    where
-      go : (a : Bool) → eqb c 78 ≡ a → (b : Bool) → eqb c 58 ≡ b → (a || b) ≡ false → (c ≡ 78 → ⊥) × (c ≡ 58 → ⊥)
-      go true x b y e = absurd (false≢true (sym e))
-      go false x true y e = absurd (false≢true (sym e))
-      go false x false y e = (eqb-false c 78 x, eqb-false c 58 y)
-
-  -- from the sequence word on, where "/" stood before it or doesn't stand here
-  abbrev Sequences : List KeptRow → Answer (Behind BlockRead) → Type 0
-  Sequences rs x = Goes (sequenced len f skip) len (λ b v l. SomeBlock f (skipRows skip ++ v)) (λ n b ds w. BlockStop f n (skipRows skip ++ b) ds w) rs x
-
-  sequenced-goes : (rs : List KeptRow) → (fronts 47 rs ≡ true → skip ≡ true) → Sequences rs (sequenced len f skip rs)
-  sequenced-goes [] s = held (at-end {n = 14} [] [] refl tt (rw (append-nil (skipRows skip)) (cut-start skip)))
-  sequenced-goes (r ∷ rs) s = go (eqb (r .char) 78 || eqb (r .char) 58) refl
-    where
-      go : (b : Bool) → (eqb (r .char) 78 || eqb (r .char) 58) ≡ b → Sequences (r ∷ rs) (cond b (numbered len f skip (eqb (r .char) 58) rs) (refused 9 (r .place)))
-      go true e =
-          let m = mark-is (r .char) e in
-          goes-after {o = numbered len f skip (eqb (r .char) 58)} (r ∷ []) refl (λ l h. ap (λ b. cond b (numbered len f skip (eqb (r .char) 58) l) (refused 9 (r .place))) e)
-          (goes-map (λ a v l h. subst (λ c. SomeBlock f (skipRows skip ++ (c ∷ v))) (sym m) h) (λ n b ds w h. subst (λ c. BlockStop f n (skipRows skip ++ (c ∷ b)) ds w) (sym m) h)
-          (numbered-goes (eqb (r .char) 58) rs))
-      go false e =
-          let n = not-marked (r .char) e in
-          held (at-row {n = 9} [] [] [] rs r refl tt (rw (append-nil (skipRows skip)) (no-start skip (n .0, n .1, λ h. s (rw h)))) (λ h. absurd (omega arith))
-          (λ es l h k. alone (sequenced len f skip) r [] (λ l. rw e tt) es l k))
-
-pub block-goes : (f : Format) → Facts f → (len : ℕ) (rs : List KeptRow) → Goes (blockAt len f) len (λ b u l. SomeBlock f u) (BlockStop f) rs (blockAt len f rs)
-unfolding blockAt
-block-goes f facts len rs =
-    goes-if (fronts 47) (fronts-like 47 refl) rs (λ e. skipped rs e) (λ e. sequenced-goes f facts len false rs (λ h. absurd (false≢true (sym e ∙ h))))
+mark-is : (c : ℕ) → (eqb c 78 || eqb c 58) ≡ true → c ≡ cond (eqb c 58) 58 78
+mark-is c e = go (eqb c 78) refl (eqb c 58) refl e
   where
-    skipped : (rs : List KeptRow) → fronts 47 rs ≡ true → Goes (λ l. sequenced len f true (behind l)) len (λ b u l. SomeBlock f u) (BlockStop f) rs (sequenced len f true (behind rs))
-    skipped [] e = absurd (false≢true e)
-    skipped (r ∷ rs) e =
-        let m = eqb-true (r .char) 47 e in
-        goes-after {o = sequenced len f true} (r ∷ []) refl (λ l h. refl)
-        (goes-map (λ a v l h. subst (λ c. SomeBlock f (c ∷ v)) (sym m) h) (λ n b ds w h. subst (λ c. BlockStop f n (c ∷ b) ds w) (sym m) h)
-        (sequenced-goes f facts len true rs (λ h. refl)))
+    go : (a : Bool) → eqb c 78 ≡ a → (b : Bool) → eqb c 58 ≡ b → (a || b) ≡ true → c ≡ cond b 58 78
+    go a x true y e = eqb-true c 58 y
+    go true x false y e = eqb-true c 78 x
+    go false x false y e = absurd (false≢true e)
+
+not-marked : (c : ℕ) → (eqb c 78 || eqb c 58) ≡ false → (c ≡ 78 → ⊥) × (c ≡ 58 → ⊥)
+not-marked c e = go (eqb c 78) refl (eqb c 58) refl e
+  where
+    go : (a : Bool) → eqb c 78 ≡ a → (b : Bool) → eqb c 58 ≡ b → (a || b) ≡ false → (c ≡ 78 → ⊥) × (c ≡ 58 → ⊥)
+    go true x b y e = absurd (false≢true (sym e))
+    go false x true y e = absurd (false≢true (sym e))
+    go false x false y e = (eqb-false c 78 x, eqb-false c 58 y)
+
+module _ (f : Format) (len : ℕ) where
+  -- a start, behind which no digit stands
+  abbrev Begins : List ℕ → List KeptRow → Type 0
+  Begins u l = Opened f u × (digitNext l ≡ false)
+
+  module _ (skip : Bool) where
+    -- the start of a block with these digits
+    abbrev fore : Bool → List ℕ → List ℕ
+    fore alignment ds = skipRows skip ++ (cond alignment 58 78 ∷ ds)
+
+    opens : (alignment : Bool) (m : ℕ) (ds : List ℕ) {rest : List KeptRow} → Figured Nothing (f .sequence) m ds rest → Opened f (fore alignment ds)
+    opens alignment m ds h =
+        let c = coded (f .sequence) ds (h .all) (omega (arith, h .least, h .most)) in
+        subst (λ l. Opened f (fore alignment l)) (sym (c .2)) (opened skip alignment (c .1))
+
+    digits-go : (alignment : Bool) (rs : List KeptRow)
+        → Goes (digitsAt len (f .sequence) skip alignment) len (λ b v l. Begins (fore alignment v) l) (λ n b ds w. BlockStop f n (fore alignment b) ds w) rs (digitsAt len (f .sequence) skip alignment rs)
+    digits-go alignment rs =
+        goes-bind (goes-map (λ a u l h. h) (λ n b ds w h. in-number skip alignment h) (figures-go len 9 Nothing (f .sequence) (λ e. omega arith) rs)) λ m ds rest e h.
+        took [] refl (rw (append-nil (chars ds)) (opens alignment m (chars ds) h), h .apart) (λ l e. refl)
+
+    -- from the sequence word on, where "/" stood before it or doesn't stand here
+    abbrev Sequences : List KeptRow → Answer (Behind Begun) → Type 0
+    Sequences rs x = Goes (numberAt len (f .sequence) skip) len (λ b v l. Begins (skipRows skip ++ v) l) (λ n b ds w. BlockStop f n (skipRows skip ++ b) ds w) rs x
+
+    number-goes : (rs : List KeptRow) → (fronts 47 rs ≡ true → skip ≡ true) → Sequences rs (numberAt len (f .sequence) skip rs)
+    number-goes [] s = held (at-end {n = 14} [] [] refl tt (rw (append-nil (skipRows skip)) (cut-start skip)))
+    number-goes (r ∷ rs) s = go (eqb (r .char) 78 || eqb (r .char) 58) refl
+      where
+        go : (b : Bool) → (eqb (r .char) 78 || eqb (r .char) 58) ≡ b → Sequences (r ∷ rs) (cond b (digitsAt len (f .sequence) skip (eqb (r .char) 58) rs) (refused 9 (r .place)))
+        go true e =
+            let m = mark-is (r .char) e in
+            goes-after {o = digitsAt len (f .sequence) skip (eqb (r .char) 58)} (r ∷ []) refl
+            (λ l h. ap (λ b. cond b (digitsAt len (f .sequence) skip (eqb (r .char) 58) l) (refused 9 (r .place))) e)
+            (goes-map (λ a v l h. subst (λ c. Begins (skipRows skip ++ (c ∷ v)) l) (sym m) h) (λ n b ds w h. subst (λ c. BlockStop f n (skipRows skip ++ (c ∷ b)) ds w) (sym m) h)
+            (digits-go (eqb (r .char) 58) rs))
+        go false e =
+            let n = not-marked (r .char) e in
+            held (at-row {n = 9} [] [] [] rs r refl tt (rw (append-nil (skipRows skip)) (no-start skip (n .0, n .1, λ h. s (rw h)))) (λ h. absurd (omega arith))
+            (λ es l h k. alone (numberAt len (f .sequence) skip) r [] (λ l. rw e tt) es l k))
+
+  start-goes : (rs : List KeptRow) → Goes (startAt len (f .sequence)) len (λ b u l. Begins u l) (BlockStop f) rs (startAt len (f .sequence) rs)
+  unfolding startAt
+  start-goes rs =
+      goes-if (fronts 47) (fronts-like 47 refl) rs (λ e. skipped rs e) (λ e. number-goes false rs (λ h. absurd (false≢true (sym e ∙ h))))
+    where
+      skipped : (rs : List KeptRow) → fronts 47 rs ≡ true
+          → Goes (λ l. numberAt len (f .sequence) true (behind l)) len (λ b u l. Begins u l) (BlockStop f) rs (numberAt len (f .sequence) true (behind rs))
+      skipped [] e = absurd (false≢true e)
+      skipped (r ∷ rs) e =
+          let m = eqb-true (r .char) 47 e in
+          goes-after {o = numberAt len (f .sequence) true} (r ∷ []) refl (λ l h. refl)
+          (goes-map (λ a v l h. subst (λ c. Begins (c ∷ v) l) (sym m) h) (λ n b ds w h. subst (λ c. BlockStop f n (c ∷ b) ds w) (sym m) h) (number-goes true rs (λ h. refl)))
+
+  pub block-goes : Facts f → (rs : List KeptRow) → Goes (blockAt len f) len (λ b u l. SomeBlock f u) (BlockStop f) rs (blockAt len f rs)
+  unfolding blockAt
+  block-goes facts rs =
+      goes-bind {f = λ b l. wordsAndEnd len f (record { value = b; rest = l })} (start-goes rs) λ b s rest e h.
+      goes-bind (goes-map (λ a u l k. k) (λ n b es w q. in-words (h .0) q) (words-go len (f .dots) (facts .fair) rest)) λ ws u rest₂ e k.
+      goes-bind (goes-map (λ a v l z. z) (λ n b es w q. in-end (h .0) (k .0) (firm-after (chars s) u rest rest₂ e (h .1) (k .1)) q) (ended-goes len 14 10 (λ e. omega arith) rest₂)) λ p v rest₃ e z.
+      took [] refl (rw (append-nil (chars v)) (closed (h .0) (k .0) z)) (λ l e. refl)

@@ -18,8 +18,8 @@ use Rattle.shorthand.specs.Edition.{letters}
 use Rattle.shorthand.specs.Facts.{Facts}
 use Rattle.reading.specs.declared.Block.{Block}
 use Rattle.reading.specs.Relation.{Signed, End, lf, cr-lf, skipRows, Program, program, chars}
-use Rattle.reading.specs.Figures.{fewest}
-use Rattle.reading.specs.Parse.{missingOf}
+use Rattle.words.specs.Figures.{fewest}
+use Rattle.words.specs.Data.{missingOf}
 use Rattle.reading.proofs.WordsTake.{fails}
 use Rattle.reading.proofs.ReadData.{barred-none}
 use Rattle.places.specs.Begins.{Digit, Begins, Closes}

@@ -14,7 +14,7 @@ use Rattle.rows.proofs.Every.{every-append}
 use Rattle.shorthand.specs.declared.Missing.{Missing}
 use Rattle.shorthand.specs.declared.Missing.the-variants.{Nothing, Leading, Trailing}
 use Rattle.reading.specs.Relation.{digits, zeros, Punched, in-full, front, back}
-use Rattle.reading.specs.Figures.{isDigit, fewest}
+use Rattle.words.specs.Figures.{isDigit, fewest}
 use Rattle.reading.proofs.Runs.{digits-front}
 use Rattle.reading.proofs.RowsAhead.{is-digit}
 use Rattle.places.specs.Begins.{Digit}

@@ -15,8 +15,8 @@ use Rattle.shorthand.specs.Layout.{signOf, width, itemsOf}
 use Rattle.shorthand.specs.Facts.{Facts}
 use Rattle.reading.specs.declared.Block.{Block}
 use Rattle.reading.specs.Relation.{digits, Signed, End, lf, cr-lf, skipRows, Blocks, Program, program}
-use Rattle.reading.specs.Figures.{fewest}
-use Rattle.reading.specs.Parse.{missingOf}
+use Rattle.words.specs.Figures.{fewest}
+use Rattle.words.specs.Data.{missingOf}
 use Rattle.reading.proofs.BlockTakes.{block-some}
 use Rattle.places.specs.Begins.{Digit, Closes}
 use Rattle.places.specs.Faults.{numberRows, Miscounted, too-few, too-many, lastOf}

@@ -9,10 +9,10 @@ use lib.IntN.{ℤ, pos}
 use Rattle.rows.specs.Passes.{Every}
 use Rattle.shorthand.specs.declared.Kind.{Kind}
 use Rattle.shorthand.specs.Layout.{Sign, signOf, width}
-use Rattle.reading.specs.declared.Value.{Value}
+use Rattle.words.specs.declared.Value.{Value}
 use Rattle.reading.specs.Relation.{digits, Signed, never, plus, minus, Data, speed, dimension}
-use Rattle.reading.specs.Figures.{fewest}
-use Rattle.reading.specs.Parse.{missingOf}
+use Rattle.words.specs.Figures.{fewest}
+use Rattle.words.specs.Data.{missingOf}
 use Rattle.reading.proofs.DigitRows.{digits-length, digits-digit}
 use Rattle.reading.proofs.WordTakes.{reads, speed-small}
 use Rattle.places.specs.Begins.{Digit}

@@ -15,7 +15,7 @@ use Rattle.rows.specs.Passes.{Every}
 use Rattle.shorthand.specs.declared.Missing.{Missing}
 use Rattle.shorthand.specs.declared.Missing.the-variants.{Nothing, Leading, Trailing}
 use Rattle.reading.specs.Relation.{chars}
-use Rattle.reading.specs.Figures.{taking, wrong, fronts, isDigit, digitNext, isSign, Run, run, restored, fewest, figures}
+use Rattle.words.specs.Figures.{taking, wrong, fronts, isDigit, digitNext, isSign, Run, run, restored, fewest, figures}
 use Rattle.reading.proofs.DigitRows.{worth}
 use Rattle.reading.proofs.RowsAhead.{is-digit}
 use Rattle.places.specs.Begins.{Digit}

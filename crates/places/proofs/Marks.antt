@@ -13,10 +13,10 @@ use Rattle.shorthand.specs.declared.Item.{Item}
 use Rattle.shorthand.specs.declared.Format.{Format}
 use Rattle.shorthand.specs.Edition.{letters, anyOf}
 use Rattle.shorthand.specs.Facts.{Fair, none, more, Facts}
-use Rattle.reading.specs.declared.Word.{Word}
+use Rattle.words.specs.declared.Word.{Word}
 use Rattle.reading.specs.declared.Block.{Block}
 use Rattle.reading.specs.Relation.{digits, Worded, word, tab, Words, done, out, here, End, lf, cr-lf, skipRows, sequenceRows, Blocked, block, Blocks, Program, program}
-use Rattle.reading.specs.Figures.{isDigit}
+use Rattle.words.specs.Figures.{isDigit}
 use Rattle.reading.proofs.DigitRows.{digits-length, digits-digit}
 use Rattle.reading.proofs.WordsTake.{fails}
 use Rattle.places.specs.Begins.{Digit}

@@ -15,8 +15,8 @@ use Rattle.shorthand.specs.Edition.{letters}
 use Rattle.shorthand.specs.Facts.{Facts}
 use Rattle.reading.specs.declared.Block.{Block}
 use Rattle.reading.specs.Relation.{Signed, plus, minus, skipRows, block, Program}
-use Rattle.reading.specs.Figures.{fewest}
-use Rattle.reading.specs.Parse.{missingOf}
+use Rattle.words.specs.Figures.{fewest}
+use Rattle.words.specs.Data.{missingOf}
 use Rattle.reading.proofs.WordsTake.{fails}
 use Rattle.places.specs.Begins.{Digit, Closes}
 use Rattle.places.specs.Faults.{numberRows, Miscounted, SignRow, SignFault, EndDue, lastOf, Misfit}

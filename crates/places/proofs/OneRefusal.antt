@@ -14,7 +14,7 @@ use Rattle.shorthand.specs.declared.Item.{Item}
 use Rattle.shorthand.specs.declared.Format.{Format}
 use Rattle.shorthand.specs.Facts.{Widths, Facts}
 use Rattle.reading.specs.Relation.{chars}
-use Rattle.reading.specs.Figures.{digitNext}
+use Rattle.words.specs.Figures.{digitNext}
 use Rattle.reading.proofs.Outcomes.{chars-append}
 use Rattle.reading.proofs.DigitRows.{digits-length, digits-digit}
 use Rattle.places.specs.Begins.{Digit, Begins}

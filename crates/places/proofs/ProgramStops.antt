@@ -14,8 +14,10 @@ use Rattle.shorthand.specs.declared.Format.{Format}
 use Rattle.shorthand.specs.Facts.{Facts}
 use Rattle.reading.specs.declared.Block.{Block}
 use Rattle.reading.specs.Relation.{End, Blocks, none, more, Program, program}
-use Rattle.reading.specs.Figures.{Behind, taking, wrong, fronts, behind, ended}
-use Rattle.reading.specs.Parse.{BlockRead, blockAt, headAt, entry, blocksAt}
+use Rattle.words.specs.Figures.{Behind, taking, wrong, fronts, behind}
+use Rattle.parts.specs.Ends.{ended}
+use Rattle.reading.specs.Parse.{BlockRead, blockAt, entry, blocksAt}
+use Rattle.parts.specs.Ends.{headAt}
 use Rattle.reading.specs.Answers.{programAt}
 use Rattle.reading.proofs.BlockTakes.{block-some}
 use Rattle.places.proofs.Steady.{Like, first-row, Refuses, refuses-bind, Held, at-row, at-end, held-after, Goes, took, held, goes-after, goes-map}
@@ -80,7 +82,7 @@ module _ (f : Format) (facts : Facts f) (len : ℕ) where
   unfolding blocksAt
   blocks-held zero from rs n q few e = let z : _≡_ {A = ℕ} 0 1 = cc in absurd (omega arith)
   blocks-held (suc k) from [] n q few e = let z : _≡_ {A = ℕ} 0 1 = cc in absurd (omega arith)
-  blocks-held (suc k) from (r ∷ rs) n q few e = go (block-goes f facts len (r ∷ rs)) e (λ to rest. blocks-held k to rest n q)
+  blocks-held (suc k) from (r ∷ rs) n q few e = go (block-goes f len facts (r ∷ rs)) e (λ to rest. blocks-held k to rest n q)
     where
       go : {x : Answer (Behind BlockRead)} → Goes (blockAt len f) len (λ b u l. SomeBlock f u) (BlockStop f) (r ∷ rs) x
           → (x >>= λ b. blocksAt k len f (b .value .lf + 1) (b .rest) >>= λ es. taken (entry from (b .value) ∷ es)) ≡ refused n q

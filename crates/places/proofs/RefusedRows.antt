@@ -15,7 +15,7 @@ use Rattle.shorthand.specs.declared.Format.{Format}
 use Rattle.shorthand.specs.Facts.{Facts}
 use Rattle.reading.specs.declared.Block.{Block}
 use Rattle.reading.specs.Relation.{digits, zeros, Program, chars}
-use Rattle.reading.specs.Figures.{digitNext}
+use Rattle.words.specs.Figures.{digitNext}
 use Rattle.reading.specs.Answers.{programAt}
 use Rattle.reading.proofs.RowsAhead.{is-digit}
 use Rattle.reading.proofs.Complete.{complete}

@@ -13,11 +13,11 @@ use Rattle.rows.specs.Kept.{KeptRow}
 use Rattle.shorthand.specs.declared.Kind.{Kind}
 use Rattle.shorthand.specs.Layout.{Sign, barred, required, optional, signOf, width}
 use Rattle.reading.specs.Relation.{Signed, chars}
-use Rattle.reading.specs.Figures.{Behind, taking, isSign, mayStand, mayMiss, figures, signed}
-use Rattle.reading.specs.Parse.{missingOf}
+use Rattle.words.specs.Figures.{Behind, taking, isSign, mayStand, mayMiss, figures, signed}
+use Rattle.words.specs.Data.{missingOf}
 use Rattle.reading.proofs.ReadData.{SignRows, sign-stands, sign-missing, sign-is}
 use Rattle.reading.proofs.RowsAhead.{digit-no-sign}
-use Rattle.reading.proofs.Signs.{sign}
+use Rattle.words.proofs.Signs.{sign}
 use Rattle.places.specs.Faults.{SignFault, barred-sign, missing-sign}
 use Rattle.places.proofs.Steady.{Like, first-row, Refuses, at-row, at-end, Goes, took, held, goes-map, goes-bind}
 use Rattle.places.proofs.FigureStops.{Figured, signNext, FigureStop, figures-go}

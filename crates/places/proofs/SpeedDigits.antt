@@ -15,7 +15,7 @@ use Rattle.rows.specs.Passes.{Every}
 use Rattle.rows.proofs.Every.{every-append}
 use Rattle.speeds.specs.Meaning.{codeLength, meaning, secondZero, speedFor}
 use Rattle.shorthand.specs.declared.Kind.{Kind}
-use Rattle.reading.specs.declared.Value.{Value}
+use Rattle.words.specs.declared.Value.{Value}
 use Rattle.reading.specs.Relation.{digits, zeros, Data, speed}
 use Rattle.reading.proofs.Runs.{digits-front, digits-leading}
 use Rattle.places.specs.Begins.{Digit}

@@ -9,7 +9,7 @@ use lib.ListN.{length}
 use Rattle.rows.specs.Kept.{KeptRow}
 use Rattle.rows.specs.Passes.{Every}
 use Rattle.reading.specs.Relation.{chars}
-use Rattle.reading.specs.Figures.{isDigit, digitNext}
+use Rattle.words.specs.Figures.{isDigit, digitNext}
 use Rattle.reading.proofs.RowsAhead.{is-digit}
 use Rattle.places.specs.Begins.{Digit}
 use Rattle.places.proofs.DigitLists.{digit-is}

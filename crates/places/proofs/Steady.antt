@@ -10,7 +10,7 @@ use Rattle.rows.specs.Answer.{Answer, taken, refused, _>>=_}
 use Rattle.rows.specs.Kept.{KeptRow}
 use Rattle.rows.specs.Passes.{Every}
 use Rattle.reading.specs.Relation.{chars}
-use Rattle.reading.specs.Figures.{Behind, taking, digitNext}
+use Rattle.words.specs.Figures.{Behind, taking, digitNext}
 use Rattle.reading.proofs.Outcomes.{chars-append}
 use Rattle.places.specs.Begins.{Digit}
 

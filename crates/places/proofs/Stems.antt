@@ -16,7 +16,7 @@ use Rattle.shorthand.specs.Edition.{letters, anyOf}
 use Rattle.shorthand.specs.Facts.{Facts}
 use Rattle.reading.specs.declared.Block.{Block}
 use Rattle.reading.specs.Relation.{Signed, End, lf, cr-lf, skipRows, sequenceRows, Blocked, block, Blocks, Program, program}
-use Rattle.reading.specs.Figures.{isDigit, isSign}
+use Rattle.words.specs.Figures.{isDigit, isSign}
 use Rattle.reading.proofs.ReadData.{either}
 use Rattle.reading.proofs.WordsTake.{fails}
 use Rattle.reading.proofs.RowsAhead.{is-digit}

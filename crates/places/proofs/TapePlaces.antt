@@ -28,7 +28,7 @@ use Rattle.reading.proofs.Outcomes.{chars-append}
 use Rattle.reading.proofs.DigitRows.{digits-length}
 use Rattle.reading.proofs.Places.{kept-rising}
 use Rattle.punching.specs.Rows.{rowOf}
-use Rattle.punching.proofs.PunchedRows.{Bare, block-bare}
+use Rattle.reading.proofs.BareRows.{Bare, block-bare}
 use Rattle.punching.proofs.PunchedTapes.{chars-punched, rows-pass}
 use Rattle.places.specs.Begins.{Begins}
 use Rattle.places.specs.Faults.{EndDue, Misfit, Refusal, at-row, at-cr, at-address, at-length}

@@ -16,9 +16,9 @@ use Rattle.shorthand.specs.Layout.{width, itemsOf}
 use Rattle.shorthand.specs.Facts.{Widths, none, Facts}
 use Rattle.reading.specs.declared.Block.{Block}
 use Rattle.reading.specs.Relation.{digits, word, End, lf, cr-lf, skipRows, Blocks, Program, program}
-use Rattle.reading.specs.Figures.{fewest}
-use Rattle.reading.specs.Parse.{missingOf}
-use Rattle.reading.proofs.Signs.{sign}
+use Rattle.words.specs.Figures.{fewest}
+use Rattle.words.specs.Data.{missingOf}
+use Rattle.words.proofs.Signs.{sign}
 use Rattle.places.specs.Begins.{Digit, Begins, Due}
 use Rattle.places.specs.Faults as faults
 use Rattle.places.specs.Faults.{Miscounted, too-few, too-many, EndDue, of-head, of-block, SignRow, Misfit, Cut, in-head, SpeedDue, Spoilt}

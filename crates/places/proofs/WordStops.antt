@@ -17,11 +17,11 @@ use Rattle.shorthand.specs.declared.Kind.the-variants.{Plain}
 use Rattle.shorthand.specs.declared.Item.{Item}
 use Rattle.shorthand.specs.Layout.{signOf, width}
 use Rattle.shorthand.specs.Facts.{Widths}
-use Rattle.reading.specs.declared.Value.{Value}
-use Rattle.reading.specs.declared.Word.{Word}
+use Rattle.words.specs.declared.Value.{Value}
+use Rattle.words.specs.declared.Word.{Word}
 use Rattle.reading.specs.Relation.{digits, Data, number, speed, dimension, Worded, word, chars}
-use Rattle.reading.specs.Figures.{Behind, taking, wrong, digitNext, figures, signed}
-use Rattle.reading.specs.Parse.{missingOf, spoken, meant, dataAt, wordAt}
+use Rattle.words.specs.Figures.{Behind, taking, wrong, digitNext, figures, signed}
+use Rattle.words.specs.Data.{missingOf, spoken, meant, dataAt, wordAt}
 use Rattle.reading.proofs.ReadData.{barred-none}
 use Rattle.reading.proofs.DigitRows.{worth, digits-length, digits-digit, digits-worth}
 use Rattle.reading.proofs.RowsAhead.{digit-no-sign}

@@ -11,10 +11,12 @@ use Rattle.rows.specs.Kept.{KeptRow}
 use Rattle.shorthand.specs.declared.Item.{Item}
 use Rattle.shorthand.specs.Edition.{letters}
 use Rattle.shorthand.specs.Facts.{Widths, Fair, none, more}
-use Rattle.reading.specs.declared.Word.{Word}
+use Rattle.words.specs.declared.Word.{Word}
 use Rattle.reading.specs.Relation.{Worded, tab, Words, done, out, here, chars}
-use Rattle.reading.specs.Figures.{Behind, fronts, isDigit, digitNext}
-use Rattle.reading.specs.Parse.{wordAt, steps, stepped, consWord, wordsAt}
+use Rattle.words.specs.Figures.{Behind, fronts, isDigit, digitNext}
+use Rattle.words.specs.Data.{wordAt}
+use Rattle.parts.specs.Items.{steps, stepped}
+use Rattle.reading.specs.Parse.{consWord, wordsAt}
 use Rattle.reading.proofs.WordsTake.{fails}
 use Rattle.places.specs.Begins.{Digit}
 use Rattle.places.specs.Faults.{lastOf}

@@ -18,8 +18,8 @@ use Rattle.shorthand.specs.Lawful.{Lawful}
 use Rattle.shorthand.specs.Spell.{spell}
 use Rattle.reading.specs.declared.Block.{Block}
 use Rattle.reading.specs.Relation.{digits, Signed, End, skipRows, Program, chars}
-use Rattle.reading.specs.Figures.{fewest}
-use Rattle.reading.specs.Parse.{missingOf}
+use Rattle.words.specs.Figures.{fewest}
+use Rattle.words.specs.Data.{missingOf}
 use Rattle.places.specs.Begins.{Digit, Begins, Closes, Due}
 
 -- ---- one row that does not fit

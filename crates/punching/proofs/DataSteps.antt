@@ -7,7 +7,7 @@ use mathlib.Core.Logic.{_⊎_, ⊎-elim}
 use native.Mathlib.Omega.{arith}
 use borrow.Author.Tests.{lt-ltb, le-ltb}
 use denote.Enum.Declared.{tagOf}
-use Rattle.reading.proofs.Value.{the-type}
+use Rattle.words.proofs.Value.{the-type}
 use Rattle.speeds.proofs.Answers.{speed-read}
 use Rattle.speeds.proofs.ExactCode.{exact-means}
 use lib.IntN.{ℤ, natAbs}
@@ -18,9 +18,9 @@ use Rattle.shorthand.specs.declared.Figures.{Figures}
 use Rattle.shorthand.specs.declared.Kind.{Kind}
 use Rattle.shorthand.specs.declared.Kind.the-variants.{Plain}
 use Rattle.shorthand.specs.Layout.{Sign, barred, required, optional, width, signOf}
-use Rattle.reading.specs.declared.Value.{Value}
-use Rattle.reading.specs.declared.Value.the-variants.{Number}
-use Rattle.reading.specs.Figures.{mayStand}
+use Rattle.words.specs.declared.Value.{Value}
+use Rattle.words.specs.declared.Value.the-variants.{Number}
+use Rattle.words.specs.Figures.{mayStand}
 use Rattle.reading.specs.Relation.{digits}
 use Rattle.punching.specs.Rows.{minus, signRows}
 use Rattle.punching.specs.Fits.{unless}

@@ -23,11 +23,11 @@ use Rattle.shorthand.specs.Facts.{Fair, Facts}
 use Rattle.shorthand.specs.Edition.{anyOf}
 use Rattle.shorthand.proofs.Tests.{left, right}
 use Rattle.shorthand.proofs.Fairness.{lawful-facts}
-use Rattle.reading.specs.declared.Value.{Value}
-use Rattle.reading.specs.declared.Word.{Word}
+use Rattle.words.specs.declared.Value.{Value}
+use Rattle.words.specs.declared.Word.{Word}
 use Rattle.reading.specs.declared.Block.{Block}
 use Rattle.reading.specs.Record.{blank, blockOf, wordsOf}
-use Rattle.reading.specs.Figures.{mayStand}
+use Rattle.words.specs.Figures.{mayStand}
 use Rattle.reading.specs.Relation.{Punched, in-full, front, back, Signed, never, plus, minus-stands, plus-stands, plus-missing, Data, number, speed, dimension, Worded, word, Words, done, out, here, Blocked, block, Blocks, none, more, Program, program, TapeOf}
 use Rattle.punching.specs.Rows.{minus, blockChars, cleared}
 use Rattle.punching.specs.Fits.{valueFits, wordsFit, recordFits}

@@ -1,5 +1,4 @@
 -- Laws of the crate's definitions, each file named for its subject: those of the round trip, and then those that the functions cite.
-pub mod Ranges
 pub mod Records
 pub mod Refusals
 pub mod PunchedRows

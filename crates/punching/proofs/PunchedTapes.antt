@@ -28,17 +28,10 @@ use Rattle.punching.specs.Rows.{rowOf, blockChars, rowsOf, headRows, cle
 use Rattle.punching.specs.Fits.{recordFits}
 use Rattle.punching.specs.Answers.{blockPunched}
 use Rattle.punching.proofs.Records.{punched-stands}
-use Rattle.punching.proofs.PunchedRows.{Bare, punched-kept, punched-pass, block-bare}
+use Rattle.reading.proofs.BareRows.{Bare, block-bare}
+use Rattle.reading.proofs.BlocksJoined.{blocks-append, program-append}
+use Rattle.punching.proofs.PunchedRows.{punched-kept, punched-pass}
 use Rattle.punching.proofs.Refusals.{block-written}
-
--- ---- blocks behind a program
-
-pub blocks-append : {f : Format} {bs cs : List Block} {r s : List ℕ} → Blocks f bs r → Blocks f cs s → Blocks f (bs ++ cs) (r ++ s)
-blocks-append none q = q
-blocks-append {s = s} (more {r = r} {s = u} b p) q = rw (append-assoc r u s) (more b (blocks-append p q))
-
-pub program-append : {f : Format} {bs cs : List Block} {r s : List ℕ} → Program f bs r → Blocks f cs s → Program f (bs ++ cs) (r ++ s)
-program-append {s = s} (program {e = e} {r = r} x p) q = rw (append-assoc e r s) (program x (blocks-append p q))
 
 -- ---- rows behind a tape
 

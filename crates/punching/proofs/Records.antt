@@ -23,12 +23,12 @@ use Rattle.shorthand.specs.declared.Item.{Item}
 use Rattle.shorthand.specs.declared.Format.{Format}
 use Rattle.shorthand.specs.Layout.{itemsOf, width, Sign, barred, required, optional, signOf}
 use Rattle.shorthand.specs.Facts.{Widths, Fair, more, Facts}
-use Rattle.reading.specs.declared.Value.{Value}
-use Rattle.reading.specs.declared.Value.the-variants.{Number}
-use Rattle.reading.specs.declared.Word.{Word}
+use Rattle.words.specs.declared.Value.{Value}
+use Rattle.words.specs.declared.Value.the-variants.{Number}
+use Rattle.words.specs.declared.Word.{Word}
 use Rattle.reading.specs.declared.Block.{Block}
 use Rattle.reading.specs.Record.{wordsOf}
-use Rattle.reading.specs.Figures.{mayStand}
+use Rattle.words.specs.Figures.{mayStand}
 use Rattle.reading.specs.Relation.{digits, Punched, in-full, front, back, Signed, never, plus, minus-stands, plus-stands, Data, number, speed, dimension, word, address, tab, Words, done, out, here, lf, Blocked, block}
 use Rattle.reading.proofs.DigitRows.{digits-length}
 use Rattle.punching.specs.Rows.{minus, signRows, codeRows, dataRows, wordRows, blockChars, cleared}

@@ -17,11 +17,11 @@ use Rattle.shorthand.specs.Edition.{letters, anyOf}
 use Rattle.shorthand.specs.Layout as layout
 use Rattle.shorthand.specs.Layout.{itemsOf}
 use Rattle.shorthand.specs.Facts.{Fair, none, more, Facts}
-use Rattle.reading.specs.declared.Word.{Word}
+use Rattle.words.specs.declared.Word.{Word}
 use Rattle.reading.specs.declared.Block.{Block}
 use Rattle.reading.specs.Record.{blank, wordsOf}
 use Rattle.reading.specs.Relation.{address, tab}
-use Rattle.reading.proofs.ItemSteps.{item-at, items-end}
+use Rattle.shorthand.proofs.FormatItems.{item-at, items-end}
 use Rattle.punching.specs.Rows.{dataRows, wordRows}
 use Rattle.punching.specs.Fits.{valueFits, wordsFit}
 use Rattle.punching.specs.Line.{joined, behind, wordFor, wordsFor}

@@ -8,8 +8,8 @@ use Rattle.rows.specs.Answer.{Answer, taken, refusal, _>>=_, _>>_}
 use Rattle.shorthand.specs.declared.Kind.{Kind}
 use Rattle.shorthand.specs.declared.Item.{Item}
 use Rattle.shorthand.specs.declared.Format.{Format}
-use Rattle.reading.specs.declared.Value.{Value}
-use Rattle.reading.specs.declared.Word.{Word}
+use Rattle.words.specs.declared.Value.{Value}
+use Rattle.words.specs.declared.Word.{Word}
 use Rattle.reading.specs.declared.Block.{Block}
 use Rattle.reading.specs.Relation.{address}
 use Rattle.punching.specs.declared.Grown.{Grown}

@@ -4,15 +4,15 @@ ghost use Rattle.shorthand.specs.Facts.{Facts};
 ghost use Rattle.punching.specs.Answers.{headPunched, blockFor, blockPunched, written, after, punchedTold};
 ghost use Rattle.punching.specs.Line.{endOf};
 
+mod compose;
 mod line;
-mod words;
 
+use compose::compose_block;
 pub use line::magnitude_of;
 use reading::Block;
 use rows::Checked;
 use rows::Refusal;
 use shorthand::Format;
-use words::compose_block;
 
 // How many rows were written.
 pub enum Punched {

@@ -8,15 +8,14 @@ use lib.ListN.{length, length-append}
 use Rattle.rows.specs.Kept.{KeptRow}
 use Rattle.shorthand.specs.declared.Missing.the-variants.{Nothing}
 use Rattle.shorthand.specs.declared.Format.{Format}
-use Rattle.shorthand.specs.Layout.{itemsOf}
 use Rattle.shorthand.specs.Facts.{Facts}
-use Rattle.reading.specs.declared.Word.{Word}
 use Rattle.reading.specs.declared.Block.{Block}
-use Rattle.reading.specs.Record.{blockOf}
-use Rattle.reading.specs.Relation.{digits, Words, End, lf, cr-lf, skipRows, sequenceRows, Blocked, block, chars}
-use Rattle.reading.specs.Figures.{fronts, behind, ended}
-use Rattle.reading.specs.Parse.{BlockRead, sequenced, blockAt}
-use Rattle.reading.proofs.RowsAhead.{fronts-heads, behind-chars, Takes}
+use Rattle.reading.specs.Relation.{Words, End, lf, cr-lf, skipRows, sequenceRows, Blocked, block, chars}
+use Rattle.words.specs.Figures.{fronts, behind, isDigit}
+use Rattle.parts.specs.Ends.{ended}
+use Rattle.parts.specs.Starts.{numberAt, startAt}
+use Rattle.reading.specs.Parse.{blockAt}
+use Rattle.reading.proofs.RowsAhead.{heads, fronts-heads, behind-chars, Takes}
 use Rattle.reading.proofs.WordTakes.{reads-full, figures-take}
 use Rattle.reading.proofs.WordsTake.{words-apart, words-take}
 
@@ -37,31 +36,29 @@ marked : (alignment : Bool) (rs : List KeptRow) (x : List ℕ) → chars rs ≡ 
 marked true rs x e = (rw (fronts-heads 78 rs, fronts-heads 58 rs, e), rw (fronts-heads 58 rs, e), rw (fronts-heads 47 rs, e))
 marked false rs x e = (rw (fronts-heads 78 rs, fronts-heads 58 rs, e), rw (fronts-heads 58 rs, e), rw (fronts-heads 47 rs, e))
 
--- a block's number, words and end
-sequenced-takes : (f : Format) → Facts f → (len : ℕ) (skip alignment : Bool) {n : ℕ} {ws : List Word} {r e : List ℕ} → n < 10 ^ f .sequence → Words (f .dots) (itemsOf f) ws r → End e
-    → (s : List ℕ) (rs : List KeptRow) → chars rs ≡ sequenceRows (f .sequence) alignment n ++ (r ++ (e ++ s))
-    → (place : ℕ) × Takes (sequenced len f skip rs) (record { block = blockOf skip alignment n ws; lf = place }) s
-sequenced-takes f facts len skip alignment {n} {ws} {r} {e} small w end s rs q =
+-- N or ":" and its digits
+number-takes : (len d : ℕ) (skip alignment : Bool) {n : ℕ} → n < 10 ^ d → (u : List ℕ) → heads isDigit u ≡ false → (rs : List KeptRow) → chars rs ≡ sequenceRows d alignment n ++ u
+    → Takes (numberAt len d skip rs) (record { skip = skip; alignment = alignment; sequence = n }) u
+number-takes len d skip alignment {n} small u apart rs q =
     let m = marked alignment rs _ q in
-    let apart = words-apart (facts .fair) w end s in
-    let a = figures-take len 9 (f .sequence) n Nothing _ _ (behind rs) (reads-full (f .sequence) n small) (behind-chars _ _ rs q) apart in
-    let b = words-take len (f .dots) s end w (facts .fair) (a .rest) (a .leaves) in
-    let c = end-takes end len 14 10 (b .rest) s (b .leaves) in
-    (c .0, record { rest = c .1 .rest; takes = rw (m .0, m .1, a .takes, b .takes, c .1 .takes); leaves = c .1 .leaves })
+    let a = figures-take len 9 d n Nothing _ _ (behind rs) (reads-full d n small) (behind-chars _ _ rs q) apart in
+    record { rest = a .rest; takes = rw (m .0, m .1, a .takes); leaves = a .leaves }
 
 -- "/" or none before them
-skip-takes : (len : ℕ) (f : Format) (skip alignment : Bool) (x : List ℕ) (b : ℕ → BlockRead) (s : List ℕ) (rs : List KeptRow) → chars rs ≡ skipRows skip ++ (cond alignment 58 78 ∷ x)
-    → ((rs′ : List KeptRow) → chars rs′ ≡ cond alignment 58 78 ∷ x → (place : ℕ) × Takes (sequenced len f skip rs′) (b place) s) → (place : ℕ) × Takes (blockAt len f rs) (b place) s
-unfolding blockAt
-skip-takes len f true alignment x b s rs q t = rw (fronts-heads 47 rs, q) (t (behind rs) (behind-chars _ _ rs q))
-skip-takes len f false alignment x b s rs q t = rw (marked alignment rs x q .2) (t rs q)
+start-takes : (len d : ℕ) (skip alignment : Bool) {n : ℕ} → n < 10 ^ d → (u : List ℕ) → heads isDigit u ≡ false → (rs : List KeptRow)
+    → chars rs ≡ skipRows skip ++ (sequenceRows d alignment n ++ u) → Takes (startAt len d rs) (record { skip = skip; alignment = alignment; sequence = n }) u
+unfolding startAt
+start-takes len d true alignment small u apart rs q = rw (fronts-heads 47 rs, q) (number-takes len d true alignment small u apart (behind rs) (behind-chars _ _ rs q))
+start-takes len d false alignment small u apart rs q = rw (marked alignment rs _ q .2) (number-takes len d false alignment small u apart rs q)
 
 pub block-takes : (f : Format) → Facts f → {b : Block} {x : List ℕ} → Blocked f b x → (len : ℕ) (s : List ℕ) (rs : List KeptRow) → chars rs ≡ x ++ s
     → (place : ℕ) × Takes (blockAt len f rs) (record { block = b; lf = place }) s
+unfolding blockAt
 block-takes f facts (block {n} {ws} {r} {e} skip alignment small w end) len s rs q =
-    skip-takes len f skip alignment (digits (f .sequence) n ++ (r ++ (e ++ s))) (λ place. record { block = blockOf skip alignment n ws; lf = place }) s rs
-    (q ∙ simp append-assoc)
-    (λ rs′ h. sequenced-takes f facts len skip alignment small w end s rs′ h)
+    let a = start-takes len (f .sequence) skip alignment small (r ++ (e ++ s)) (words-apart (facts .fair) w end s) rs (q ∙ simp append-assoc) in
+    let b = words-take len (f .dots) s end w (facts .fair) (a .rest) (a .leaves) in
+    let c = end-takes end len 14 10 (b .rest) s (b .leaves) in
+    (c .0, record { rest = c .1 .rest; takes = rw (a .takes, b .takes, c .1 .takes); leaves = c .1 .leaves })
 
 -- a block has at least one row
 pub block-some : {f : Format} {b : Block} {x : List ℕ} → Blocked f b x → 0 < length x

@@ -14,8 +14,11 @@ use Rattle.shorthand.specs.Edition.{rank, due, anyDue}
 use Rattle.shorthand.specs.Stand.{digitsOf, afterDigits, stand, standN}
 use Rattle.shorthand.specs.Parse.{itemsFrom, parsed}
 use Rattle.shorthand.proofs.Cases.{bytes}
-use Rattle.reading.specs.Figures.{run, figures}
-use Rattle.reading.specs.Parse.{dataAt, wordsAt, blockAt, headAt, blocksAt}
+use Rattle.words.specs.Figures.{run, figures}
+use Rattle.words.specs.Data.{dataAt}
+use Rattle.reading.specs.Parse.{wordsAt, blockAt, blocksAt}
+use Rattle.parts.specs.Ends.{headAt}
+use Rattle.parts.specs.Starts.{startAt}
 use Rattle.reading.specs.Answers.{programAt, read, readUnder, counted}
 
 pub record Case : Type 0 where
@@ -85,5 +88,5 @@ without =
     ∷ []
 
 pub counts : map (λ c. counted (c .edition) (bytes (c .shorthand)) (rows (c .tape))) (withTabs ++ without) ≡ map (λ c. c .answer) (withTabs ++ without)
-unfolding ones entry lowest scan judged keptFrom meaning speedFor rank due anyDue digitsOf afterDigits stand standN itemsFrom parsed run figures dataAt wordsAt blockAt headAt blocksAt programAt read readUnder
+unfolding ones entry lowest scan judged keptFrom meaning speedFor rank due anyDue digitsOf afterDigits stand standN itemsFrom parsed run figures dataAt wordsAt startAt blockAt headAt blocksAt programAt read readUnder
 counts = refl

@@ -10,8 +10,9 @@ use Rattle.shorthand.specs.declared.Format.{Format}
 use Rattle.shorthand.specs.Facts.{Facts}
 use Rattle.reading.specs.declared.Block.{Block}
 use Rattle.reading.specs.Relation.{Blocks, none, more, Program, program, chars}
-use Rattle.reading.specs.Figures.{behind}
-use Rattle.reading.specs.Parse.{Entry, entry, blockAt, headAt, blocksAt}
+use Rattle.words.specs.Figures.{behind}
+use Rattle.reading.specs.Parse.{Entry, entry, blockAt, blocksAt}
+use Rattle.parts.specs.Ends.{headAt}
 use Rattle.reading.specs.Answers.{programAt}
 use Rattle.reading.proofs.RowsAhead.{fronts-heads, behind-chars, Takes}
 use Rattle.reading.proofs.BlockTakes.{end-takes, block-takes, block-some}

@@ -1,84 +1,101 @@
--- A walk that gathers words: those so far stand in the block, and before those that are still to come.
-use mathlib.Core.Path.{_≡_, refl, ap, _∙_}
-use mathlib.Core.Bool.{Bool}
-use mathlib.Core.List.{List, [], _∷_, _++_, append-assoc, append-nil}
-use Prim.Native.Nat.{ℕ, _+_, _≤_, _<_}
+-- A walk over one block that gathers its record.
+use mathlib.Core.Path.{_≡_, refl, sym, ap, _∙_}
+use mathlib.Core.Bool.{false}
+use mathlib.Core.List.{List, [], _∷_, _++_}
+use Prim.Native.Nat.{ℕ, _+_, _<_}
 use native.Mathlib.Omega.{arith}
-use lib.ListN.{length, set, drop, length-append}
-use Rattle.rows.specs.Answer.{Answer, taken, refused, _>>=_}
+use lib.ListN.{length, set, length-append}
+use Rattle.rows.specs.Answer.{Answer, taken, refused, valueOr, _>>=_}
 use Rattle.rows.specs.Kept.{KeptRow}
 use Rattle.shorthand.specs.declared.Format.{Format}
-use Rattle.shorthand.specs.Layout.{itemsOf}
-use Rattle.shorthand.specs.Facts.{Facts}
 use Rattle.shorthand.proofs.Padded.{padded-set}
-use Rattle.reading.specs.declared.Word.{Word}
+use Rattle.words.specs.declared.Word.{Word}
+use Rattle.words.specs.Figures.{Behind}
+use Rattle.parts.specs.declared.Begun.{Begun}
+use Rattle.parts.specs.declared.Rules.{Rules}
+use Rattle.steps.specs.declared.Stage.the-variants.{Between}
+use Rattle.steps.specs.declared.Event.{Event}
+use Rattle.steps.specs.declared.Event.the-variants.{Finished, Opened, Out, Read, Closed}
+use Rattle.parts.specs.Starts.{startAt}
+use Rattle.parts.specs.Items.{itemAt}
+use Rattle.steps.specs.Steps.{Spot, Moved, between, stepAt}
 use Rattle.reading.specs.declared.Block.{Block}
-use Rattle.reading.specs.Record.{blank, blockOf}
-use Rattle.reading.specs.Figures.{Behind, taking}
-use Rattle.reading.specs.Parse.{wordAt, consWord, wordsAt}
-use Rattle.reading.specs.Front.{Standing, stops, out, at, standing, restOf, gatheredIn}
-use Rattle.reading.proofs.ItemSteps.{itemNow, resumed, words-turn, words-over}
-
--- words before those that are still to come
-abbrev pub prepend : List Word → Answer (Behind (List Word)) → Answer (Behind (List Word))
-prepend ws a = a >>= λ x. taking (ws ++ x .value) (x .rest)
-
-pub prepend-none : (a : Answer (Behind (List Word))) → a ≡ prepend [] a
-prepend-none (taken x) = refl
-prepend-none (refused n p) = refl
-
-prepend-word : (ws : List Word) (w : Word) (a : Answer (Behind (List Word))) → prepend ws (consWord w a) ≡ prepend (ws ++ (w ∷ [])) a
-prepend-word ws w (taken x) = rw append-assoc
-prepend-word ws w (refused n p) = refl
+use Rattle.reading.specs.Record.{emptyBlock}
+use Rattle.reading.specs.Record.{blank as noWord}
+use Rattle.reading.specs.Parse.{BlockRead, built, entry, blockAt, blocksAt}
+use Rattle.reading.specs.Front.{blockOnly, blockIn, Rising}
+use Rattle.reading.proofs.StepLaws.{Under, openIn, Walk, walk-starts, walk-full, Goes, goes, effort}
 
 -- one word more in the block
-pub stored-word : (skip alignment : Bool) (n : ℕ) (ws : List Word) (w : Word) (b r : Block) → b ≡ blockOf skip alignment n ws → length ws < 22
-    → r ≡ record { skip = b .skip; alignment = b .alignment; sequence = b .sequence; count = b .count + 1; words = set (b .words) (b .count) w }
-    → r ≡ blockOf skip alignment n (ws ++ (w ∷ []))
-stored-word skip alignment n ws w b r e l s =
+abbrev pub oneMore : Block → Word → Block
+oneMore b w = record { skip = b .skip; alignment = b .alignment; sequence = b .sequence; count = b .count + 1; words = set (b .words) (b .count) w }
+
+stored-word : (a : Begun) (ws : List Word) (w : Word) (b r : Block) → b ≡ built a ws → length ws < 22 → r ≡ oneMore b w → r ≡ built a (ws ++ (w ∷ []))
+stored-word a ws w b r e l s =
     let more : length ws + 1 ≡ length (ws ++ (w ∷ [])) = simp length-append in
-    s ∙ rw (e, more, padded-set 22 blank w ws l)
+    s ∙ rw (e, more, padded-set 22 noWord w ws l)
 
-module _ (len : ℕ) (f : Format) (start : List KeptRow) (skip alignment : Bool) (n : ℕ) where
-  abbrev all : Answer (Behind (List Word))
-  all = wordsAt len (f .dots) (itemsOf f) start
+-- the first block, alone
+none-read : (n : ℕ) (f : Format) → emptyBlock ≡ valueOr emptyBlock (blockOnly (blockAt n f []))
+unfolding blockAt startAt
+none-read n f = refl
 
-  -- at item k, before the rows rs
-  pub record SoFar (block : Block) (rs : List KeptRow) (k : ℕ) : Type 0 where
+pub one-block : (n : ℕ) (f : Format) (from : ℕ) (rs : List KeptRow) → blockIn 0 (blocksAt 1 n f from rs) ≡ valueOr emptyBlock (blockOnly (blockAt n f rs))
+unfolding blocksAt
+one-block n f from [] = none-read n f
+one-block n f from (r ∷ u) = by (blockAt n f (r ∷ u))
+  where
+    by : (a : Answer (Behind BlockRead)) → blockIn 0 (a >>= λ b. taken (entry from (b .value) ∷ [])) ≡ valueOr emptyBlock (blockOnly a)
+    by (taken b) = refl
+    by (refused m p) = refl
+
+module _ (n : ℕ) (f : Format) (from : ℕ) (start : List KeptRow) where
+  pub record Gathers (s : Spot) (block : Block) : Type 0 where
+    pub begun : Begun
     pub words : List Word
-    pub few : length words ≤ k
-    pub stored : block ≡ blockOf skip alignment n words
-    pub come : wordsAt len (f .dots) (itemsOf f) start ≡ prepend words (wordsAt len (f .dots) (drop k (itemsOf f)) rs)
+    pub fuel : ℕ
+    pub walk : Walk n f 1 from start [] begun words fuel from s
+    pub stored : block ≡ built begun words
 
-  pub none-yet : (block : Block) → block ≡ blockOf skip alignment n [] → SoFar block start 0
-  none-yet block e = record { words = []; few = omega arith; stored = e; come = prepend-none all }
+  pub gathers-none : (block : Block) → block ≡ emptyBlock → Rising n from start → Gathers (between start) block
+  gathers-none block e h =
+      let b : Begun = record { skip = false; alignment = false; sequence = 0 } in
+      record { begun = b; words = []; fuel = 1; walk = walk-starts n f 1 from start b h; stored = e }
 
-  module _ (h : Facts f) {block : Block} {rs : List KeptRow} {k : ℕ} (g : SoFar block rs k) where
-    -- nothing more comes where the items are over or can't be reached
-    finished : wordsAt len (f .dots) (drop k (itemsOf f)) rs ≡ taking [] rs → (restOf all ≡ taken rs) × (gatheredIn all ≡ g .words)
-    finished e = (ap restOf (g .come) ∙ rw e, ap gatheredIn (g .come) ∙ rw (e, append-nil))
+  -- nearer to the end
+  abbrev Nearer : Spot → Spot → Type 0
+  Nearer v s = effort n from (v .stage) (v .item) < effort n from (s .stage) (s .item)
 
-    pub over : f .count ≤ k → (restOf all ≡ taken rs) × (gatheredIn all ≡ g .words)
-    over l = finished (words-over len f h rs k l)
+  -- what holds behind a step
+  abbrev pub After : Spot → Block → Spot → Event → Type 0
+  After s block v Finished = emptyBlock ≡ blockIn 0 (blocksAt 1 n f from start)
+  After s block v (Opened b) = ((next : Block) → next ≡ built b [] → Gathers v next) × Nearer v s
+  After s block v Out = Gathers v block × Nearer v s
+  After s block v (Read w) = (block .count < 22) × ((next : Block) → next ≡ oneMore block w → Gathers v next) × Nearer v s
+  After s block v (Closed lf) = block ≡ blockIn 0 (blocksAt 1 n f from start)
+  After s block v (Event.Refused r) = emptyBlock ≡ blockIn 0 (blocksAt 1 n f from start)
 
-    module _ (l : k < f .count) (s : Standing) (e : s ≡ standing (f .dots) (itemNow len f h rs k .letter) rs) where
-      turn : wordsAt len (f .dots) (drop k (itemsOf f)) rs ≡ resumed len (f .dots) (itemNow len f h rs k) (drop (k + 1) (itemsOf f)) rs s
-      turn = words-turn len f h rs k l s e
+  module _ {u : Rules} {leads : List ℕ} (h : Under f u leads) {s : Spot} {block : Block} (g : Gathers s block) where
+    pub gathers-on : (m : Moved) → m ≡ stepAt n u leads (itemAt f (s .item)) s → (e : Event) → m .event ≡ e → After s block (m .spot) e
+    gathers-on m q e r = by e (goes n f 1 from start h (g .walk) (λ z l. spare (g .walk) z) m q e r)
+      where
+        spare : {b : Begun} {ws : List Word} {fuel : ℕ} → Walk n f 1 from start [] b ws fuel from s → s .stage ≡ Between → 0 < fuel
+        spare w z = omega (arith, w .room, ap openIn z)
 
-      pub stopped : s ≡ stops → (restOf all ≡ taken rs) × (gatheredIn all ≡ g .words)
-      stopped q = finished (turn ∙ rw q)
-
-      pub left-out : (u : List KeptRow) → s ≡ out u → SoFar block u (k + 1)
-      left-out u q = record { words = g .words; few = omega (arith, g .few); stored = g .stored; come = g .come ∙ rw (turn, q) }
-
-      pub one-more : (u v : List KeptRow) (w : Word) (b : Block) → s ≡ at u → wordAt len (itemNow len f h rs k) u ≡ taking w v
-          → b ≡ blockOf skip alignment n (g .words ++ (w ∷ [])) → SoFar b v (k + 1)
-      one-more u v w b q r t = record {
-        words = g .words ++ (w ∷ []);
-        few = rw length-append (omega (arith, g .few));
-        stored = t;
-        come = g .come ∙ rw (turn, q, r) (prepend-word (g .words) w (wordsAt len (f .dots) (drop (k + 1) (itemsOf f)) v));
-      }
-
-      pub turned-away : (u : List KeptRow) (m p : ℕ) → s ≡ at u → wordAt len (itemNow len f h rs k) u ≡ refused m p → all ≡ refused m p
-      turned-away u m p q r = g .come ∙ rw (turn, q, r)
+        by : (v : Event) → Goes n f 1 from start [] (g .begun) (g .words) (g .fuel) from s (m .spot) v → After s block (m .spot) v
+        by Finished o = sym (ap (blockIn 0) (o .0))
+        by (Opened b) o = ((λ next z. record { begun = b; words = []; fuel = o .0; walk = o .2 .walk; stored = z }), o .2 .nearer)
+        by Out o = (record { begun = g .begun; words = g .words; fuel = g .fuel; walk = o .walk; stored = g .stored }, o .nearer)
+        by (Read w) o = (
+          omega (arith, ap (λ x. x .count) (g .stored), o .1, h .facts .few),
+          (λ next z. record {
+            begun = g .begun;
+            words = g .words ++ (w ∷ []);
+            fuel = g .fuel;
+            walk = o .0 .walk;
+            stored = stored-word (g .begun) (g .words) w block next (g .stored) (omega (arith, o .1, h .facts .few)) z;
+          }),
+          o .0 .nearer,
+        )
+        by (Closed lf) o = g .stored ∙ sym (ap (blockIn 0) (walk-full n f 1 from start (o .0 .walk) refl))
+        by (Event.Refused r) o = sym (ap (blockIn 0) o)

@@ -18,19 +18,19 @@ pub mod ReadData
 pub mod ReadWords
 pub mod ReadBlocks
 pub mod Sound
+-- a program's rows joined, and its characters
+pub mod BlocksJoined
+pub mod Ranges
+pub mod BareRows
 -- the bridge
 pub mod Programs
--- for the functions: rows in hand, digits, words, blocks, the whole walk
-pub mod Fetched
-pub mod DigitRun
-pub mod Signs
-pub mod Widths
-pub mod Wrong
+-- for the functions: items, steps, the whole walk
 pub mod ItemSteps
 pub mod DueItems
-pub mod Gathering
-pub mod Started
 pub mod BlockWalk
-pub mod InBlock
+pub mod StepLaws
+pub mod Counting
+pub mod Gathering
 pub mod OwnRows
+pub mod Remaining
 pub mod Numbered

@@ -6,7 +6,7 @@ use Rattle.rows.specs.Answer.{Answer, _>>=_}
 use Rattle.rows.specs.Kept.{KeptRow}
 use Rattle.rows.proofs.Outcomes.{Holds, refusal, value, holds-map, holds-bind}
 use Rattle.reading.specs.Relation.{chars}
-use Rattle.reading.specs.Figures.{Behind, taking, wrong}
+use Rattle.words.specs.Figures.{Behind, taking, wrong}
 
 -- the rows that a parser takes stand before its rest, and R is of them and of its value
 pub record Reads {A : Type 0} (R : A → List KeptRow → Type 0) (rs : List KeptRow) (x : Behind A) : Type 0 where

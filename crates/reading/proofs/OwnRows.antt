@@ -13,8 +13,9 @@ use Rattle.rows.specs.Stages.{judged}
 use Rattle.rows.specs.Kept.{KeptRow, keptAt, kept, firstOf}
 use Rattle.rows.proofs.KeptRows.{next-row}
 use Rattle.shorthand.specs.declared.Format.{Format}
-use Rattle.reading.specs.Figures.{Behind, taking, behind}
-use Rattle.reading.specs.Parse.{BlockRead, Entry, entry, blockAt, blocksAt, headAt}
+use Rattle.words.specs.Figures.{Behind, taking, behind}
+use Rattle.reading.specs.Parse.{BlockRead, Entry, entry, blockAt, blocksAt}
+use Rattle.parts.specs.Ends.{headAt}
 use Rattle.reading.specs.Answers.{nowhere, read}
 use Rattle.reading.specs.declared.Part.{Part}
 use Rattle.reading.specs.Record.{emptyBlock}

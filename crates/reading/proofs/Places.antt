@@ -13,8 +13,9 @@ use Rattle.rows.specs.Answer.{taken}
 use Rattle.rows.specs.Kept.{KeptRow, within, stays, keptFrom, keptAt, kept}
 use Rattle.shorthand.specs.declared.Format.{Format}
 use Rattle.reading.specs.Front.{Rising, over, rise}
-use Rattle.reading.specs.Figures.{Behind}
-use Rattle.reading.specs.Parse.{Entry, headAt}
+use Rattle.words.specs.Figures.{Behind}
+use Rattle.reading.specs.Parse.{Entry}
+use Rattle.parts.specs.Ends.{headAt}
 use Rattle.reading.specs.Answers.{programAt}
 use Rattle.reading.proofs.ReadBlocks.{Last, last, before, Entries}
 use Rattle.reading.proofs.Sound.{taken-rows}
@@ -47,6 +48,11 @@ rising-at t i =
 pub last-rising : {n i p : ℕ} {s : List KeptRow} (rest : List KeptRow) → Last p s → Rising n i (s ++ rest) → (i ≤ p) × (p < n) × Rising n (suc p) rest
 last-rising {n} rest (last e) (rise a b h) = rw (← e) (a, b, h)
 last-rising rest (before l) (rise a b h) = let k = last-rising rest l h in (omega (arith, k .0), k .1, k .2)
+
+-- the rows behind some of them rise too
+pub rising-rest : {n i : ℕ} (s rest : List KeptRow) → Rising n i (s ++ rest) → Rising n i rest
+rising-rest [] rest h = h
+rising-rest (r ∷ s) rest (rise a b h) = rising-lower (omega (arith, a)) (rising-rest s rest h)
 
 -- ---- the entries
 

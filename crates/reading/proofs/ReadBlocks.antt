@@ -1,26 +1,30 @@
 -- What the parsers of an end, a block, the head and all blocks read.
-use Prim.Native.Nat.{ℕ, zero, suc, _+_, _≤_, _<_, zero-le, suc-le-suc}
+use Prim.Native.Nat.{ℕ, zero, suc, _+_, _^_, _≤_, _<_, zero-le, suc-le-suc}
 use mathlib.Core.Path.{_≡_, refl, sym, ap, _∙_}
 use mathlib.Core.Logic.{_⊎_, inl, inr}
 use mathlib.Core.Bool.{Bool, true, false, _||_, cond, false≢true}
-use mathlib.Core.List.{List, [], _∷_, _++_, append-nil}
+use mathlib.Core.List.{List, [], _∷_, _++_, append-nil, append-assoc}
 use native.Mathlib.Nat.{le-refl}
 use native.Mathlib.Omega.{arith}
-use lib.ListN.{length, length-append}
+use lib.ListN.{length, length-append, length-map}
 use lib.Dec.{eqb, lit≤}
 use borrow.Author.Tests.{eqb-true}
 use Rattle.rows.specs.Answer.{taken}
 use Rattle.rows.specs.Kept.{KeptRow}
 use Rattle.rows.specs.Passes.{Every}
-use Rattle.rows.proofs.Outcomes.{Holds, refusal, value, holds-map, holds-bind, holds-cond, holds-with}
 use Rattle.shorthand.specs.declared.Missing.the-variants.{Nothing}
 use Rattle.shorthand.specs.declared.Format.{Format}
 use Rattle.shorthand.specs.Layout.{itemsOf}
 use Rattle.reading.specs.declared.Block.{Block}
-use Rattle.reading.specs.Relation.{End, lf, cr-lf, skipRows, Blocked, block, chars}
-use Rattle.reading.specs.Figures.{Behind, fronts, behind, afterCR, ended}
-use Rattle.reading.specs.Parse.{BlockRead, sequenced, blockAt, headAt, Entry, blocksAt}
+use Rattle.reading.specs.Relation.{End, lf, cr-lf, skipRows, sequenceRows, Blocked, block, chars}
+use Rattle.parts.specs.declared.Begun.{Begun}
+use Rattle.words.specs.Figures.{Behind, fronts, behind}
+use Rattle.parts.specs.Ends.{afterCR, ended}
+use Rattle.reading.specs.Parse.{BlockRead, blockAt, Entry, blocksAt}
+use Rattle.parts.specs.Ends.{headAt}
 use Rattle.reading.specs.Answers.{programAt}
+use Rattle.parts.specs.Starts.{numberAt, startAt}
+use Rattle.rows.proofs.Outcomes.{Holds, refusal, value, holds-map, holds-bind, holds-cond, holds-with}
 use Rattle.reading.proofs.Outcomes.{Reads, Table, Placed, next-row, placed-behind, chars-append, wrong-told, reads-done, reads-map, reads-after, reads-then}
 use Rattle.reading.proofs.Runs.{figures-read}
 use Rattle.reading.proofs.ReadData.{either, punched-full, Sayable}
@@ -46,7 +50,7 @@ module _ {Q : ℕ → ℕ → Type 0} {P : ℕ → Type 0} {len : ℕ} (t : Tabl
       (λ q. value (record { took = cr ∷ r ∷ []; split = refl; stands = (rw (is, eqb-true (r .char) 10 q) cr-lf, before (last refl)) }))
       (λ q. refusal (at (cr .place) h))
 
-  ended-read : (e n : ℕ) → Q e len → ((p : ℕ) → P p → Q n p) → (rs : List KeptRow) → Placed P rs → Holds Q (Reads (λ p s. End (chars s) × Last p s) rs) (ended len e n rs)
+  pub ended-read : (e n : ℕ) → Q e len → ((p : ℕ) → P p → Q n p) → (rs : List KeptRow) → Placed P rs → Holds Q (Reads (λ p s. End (chars s) × Last p s) rs) (ended len e n rs)
   ended-read e n ends at [] all = refusal ends
   ended-read e n ends at (r ∷ rs) (next-row h all) =
       holds-cond (eqb (r .char) 10)
@@ -64,32 +68,52 @@ lead {P} rs all e = go (fronts 58 rs) refl (either (fronts 78 rs) (fronts 58 rs)
     go false q (inl h) = fronted 78 rs all h
     go false q (inr h) = absurd (false≢true (sym q ∙ h))
 
--- a block's rows, without its "/", to its LF
-abbrev pub BlockRows : Format → Bool → BlockRead → List KeptRow → Type 0
-BlockRows f skip b s = Blocked f (b .block) (skipRows skip ++ chars s) × Last (b .lf) s
+-- the rows of a block's start
+abbrev pub StartRows : ℕ → Begun → List KeptRow → Type 0
+StartRows d b s = (b .sequence < 10 ^ d) × (chars s ≡ skipRows (b .skip) ++ sequenceRows d (b .alignment) (b .sequence))
 
-module _ {Q : ℕ → ℕ → Type 0} {P : ℕ → Type 0} {len : ℕ} (t : Table Q P len) (f : Format) (says : Every (λ it. Sayable Q P (it .kind)) (itemsOf f)) where
-  sequenced-read : (skip : Bool) (rs : List KeptRow) → Placed P rs → Holds Q (Reads (BlockRows f skip) rs) (sequenced len f skip rs)
-  sequenced-read skip rs all =
+pub start-some : (d : ℕ) (b : Begun) (s : List KeptRow) → StartRows d b s → 0 < length s
+start-some d b s h =
+    let n : length (chars s) ≡ length (skipRows (b .skip)) + length (sequenceRows d (b .alignment) (b .sequence)) = ap length (h .1) ∙ length-append (skipRows (b .skip)) _ in
+    omega (arith, n, length-map s (λ r. r .char))
+
+module _ {Q : ℕ → ℕ → Type 0} {P : ℕ → Type 0} {len : ℕ} (t : Table Q P len) (d : ℕ) where
+  -- N or ":" and its digits; no "/" stands among them
+  number-read : (skip : Bool) (rs : List KeptRow) → Placed P rs
+      → Holds Q (Reads (λ b s. (b .skip ≡ skip) × (b .sequence < 10 ^ d) × (chars s ≡ sequenceRows d (b .alignment) (b .sequence))) rs) (numberAt len d skip rs)
+  number-read skip rs all =
       let nine = t .at-row 9 (lit≤ tt) (lit≤ tt) in
       holds-cond (fronts 78 rs || fronts 58 rs)
       (λ e. let l = lead rs all e in
       reads-after (l .row ∷ []) (l .split)
-      (reads-then (l .after) (figures-read t 9 nine Nothing (f .sequence) (behind rs) (l .after)) λ n ds all₁ p.
-      reads-then all₁ (words-read t (f .dots) (itemsOf f) says (n .rest) all₁) λ ws u all₂ h.
-      reads-then all₂ (ended-read t 14 10 (t .cut) (t .at-row 10 (lit≤ tt) (lit≤ tt)) (ws .rest) all₂) λ x s all₃ z.
-      let full = punched-full p in
-      reads-done
-      (rw (append-nil s, chars-append ds (u ++ s), chars-append u s, l .is, full .1) (block skip (fronts 58 rs) (full .0) h (z .0)), rw (append-nil s) (before (last-after ds (u ++ s) (last-after u s (z .1)))))))
+      (reads-then (l .after) (figures-read t 9 nine Nothing d (behind rs) (l .after)) λ v ds all₁ p.
+      let full = punched-full p in reads-done (refl, full .0, rw (append-nil ds, l .is, full .1))))
       (λ e. wrong-told len 14 9 (t .cut) nine rs all)
 
-  pub block-read : (rs : List KeptRow) → Placed P rs → Holds Q (Reads (BlockRows f false) rs) (blockAt len f rs)
-  unfolding blockAt
-  block-read rs all =
+  pub start-read : (rs : List KeptRow) → Placed P rs → Holds Q (Reads (StartRows d) rs) (startAt len d rs)
+  unfolding startAt
+  start-read rs all =
       holds-cond (fronts 47 rs)
       (λ e. let s = fronted 47 rs all e in
-      reads-after (s .row ∷ []) (s .split) (reads-map (λ b r h. (rw (s .is) (h .0), before (h .1))) (sequenced-read true (behind rs) (s .after))))
-      (λ e. sequenced-read false rs all)
+      reads-after (s .row ∷ []) (s .split) (reads-map (λ b u h. (h .1, rw (s .is, h .0, h .2))) (number-read true (behind rs) (s .after))))
+      (λ e. reads-map (λ b u h. (h .1, rw (h .0, h .2))) (number-read false rs all))
+
+-- a block's rows, to its LF
+abbrev pub BlockRows : Format → BlockRead → List KeptRow → Type 0
+BlockRows f b s = Blocked f (b .block) (chars s) × Last (b .lf) s
+
+module _ {Q : ℕ → ℕ → Type 0} {P : ℕ → Type 0} {len : ℕ} (t : Table Q P len) (f : Format) (says : Every (λ it. Sayable Q P (it .kind)) (itemsOf f)) where
+  pub block-read : (rs : List KeptRow) → Placed P rs → Holds Q (Reads (BlockRows f) rs) (blockAt len f rs)
+  unfolding blockAt
+  block-read rs all =
+      reads-then all (start-read t (f .sequence) rs all) λ b r all₁ p.
+      reads-then all₁ (words-read t (f .dots) (itemsOf f) says (b .rest) all₁) λ ws u all₂ h.
+      reads-then all₂ (ended-read t 14 10 (t .cut) (t .at-row 10 (lit≤ tt) (lit≤ tt)) (ws .rest) all₂) λ x s all₃ z.
+      reads-done (
+        rw (append-nil s, chars-append r (u ++ s), chars-append u s, p .1, append-assoc (skipRows (b .value .skip)) _ (chars u ++ chars s))
+            (block (b .value .skip) (b .value .alignment) (p .0) h (z .0)),
+        rw (append-nil s) (last-after r (u ++ s) (last-after u s (z .1))),
+      )
 
 -- ---- the head and all blocks
 

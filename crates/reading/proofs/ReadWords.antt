@@ -6,11 +6,13 @@ use mathlib.Core.List.{List, [], _∷_, _++_, append-nil}
 use borrow.Author.Tests.{eqb-true}
 use Rattle.rows.specs.Kept.{KeptRow}
 use Rattle.rows.specs.Passes.{Every}
-use Rattle.rows.proofs.Outcomes.{Holds, holds-cond}
 use Rattle.shorthand.specs.declared.Item.{Item}
 use Rattle.reading.specs.Relation.{Worded, word, tab, Words, done, out, here, chars}
-use Rattle.reading.specs.Figures.{fronts, behind, frontPlace}
-use Rattle.reading.specs.Parse.{wordAt, steps, stepped, wordsAt}
+use Rattle.words.specs.Figures.{fronts, behind, frontPlace}
+use Rattle.words.specs.Data.{wordAt}
+use Rattle.parts.specs.Items.{steps, stepped}
+use Rattle.reading.specs.Parse.{wordsAt}
+use Rattle.rows.proofs.Outcomes.{Holds, holds-cond}
 use Rattle.reading.proofs.Outcomes.{Reads, Table, Placed, next-row, chars-append, reads-done, reads-map, reads-after, reads-then}
 use Rattle.reading.proofs.ReadData.{Sayable, data-read}
 
@@ -27,18 +29,18 @@ fronted c [] all e = absurd (false≢true e)
 fronted c (r ∷ rs) (next-row h all) e = record { row = r; split = refl; is = eqb-true (r .char) c e; first = h; after = all }
 
 -- the rows by which the next item is reached
-record Stepped (P : ℕ → Type 0) (tabs : Bool) (rs : List KeptRow) : Type 0 where
-  took : List KeptRow
-  split : rs ≡ took ++ stepped tabs rs
-  is : chars took ≡ tab tabs
-  after : Placed P (stepped tabs rs)
+pub record Stepped (P : ℕ → Type 0) (tabs : Bool) (rs : List KeptRow) : Type 0 where
+  pub took : List KeptRow
+  pub split : rs ≡ took ++ stepped tabs rs
+  pub is : chars took ≡ tab tabs
+  pub after : Placed P (stepped tabs rs)
 
-steps-over : {P : ℕ → Type 0} (tabs : Bool) (rs : List KeptRow) → Placed P rs → steps tabs rs ≡ true → Stepped P tabs rs
+pub steps-over : {P : ℕ → Type 0} (tabs : Bool) (rs : List KeptRow) → Placed P rs → steps tabs rs ≡ true → Stepped P tabs rs
 steps-over true rs all e = let f = fronted 9 rs all e in record { took = f .row ∷ []; split = f .split; is = rw (f .is); after = f .after }
 steps-over false rs all e = record { took = []; split = refl; is = refl; after = all }
 
 module _ {Q : ℕ → ℕ → Type 0} {P : ℕ → Type 0} {len : ℕ} (t : Table Q P len) where
-  word-read : (it : Item) → Sayable Q P (it .kind) → (rs : List KeptRow) → Placed P rs → fronts (it .letter) rs ≡ true
+  pub word-read : (it : Item) → Sayable Q P (it .kind) → (rs : List KeptRow) → Placed P rs → fronts (it .letter) rs ≡ true
       → Holds Q (Reads (λ w s. Worded it w (chars s)) rs) (wordAt len it rs)
   word-read it says rs all e =
       let f = fronted (it .letter) rs all e in

@@ -11,7 +11,7 @@ use borrow.Author.Tests.{le-leb, ne-eqb}
 use Rattle.rows.specs.Answer.{Answer, taken}
 use Rattle.rows.specs.Kept.{KeptRow}
 use Rattle.rows.specs.Passes.{Every}
-use Rattle.reading.specs.Figures.{Behind, fronts, behind, isDigit, digitNext, isSign, run}
+use Rattle.words.specs.Figures.{Behind, fronts, behind, isDigit, digitNext, isSign, run}
 use Rattle.reading.specs.Relation.{chars}
 use Rattle.reading.proofs.DigitRows.{Digit, worth}
 

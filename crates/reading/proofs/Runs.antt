@@ -11,11 +11,11 @@ use lib.ListN.{length, length-map}
 use lib.Dec.{leb}
 use borrow.Author.Tests.{leb-true}
 use Rattle.rows.specs.Kept.{KeptRow}
-use Rattle.rows.proofs.Outcomes.{Holds, value, holds-cond}
 use Rattle.shorthand.specs.declared.Missing.{Missing}
 use Rattle.shorthand.specs.declared.Missing.the-variants.{Nothing, Leading, Trailing}
 use Rattle.reading.specs.Relation.{digits, zeros, Punched, in-full, front, back, chars}
-use Rattle.reading.specs.Figures.{Run, run, isDigit, digitNext, fewest, restored, figures}
+use Rattle.words.specs.Figures.{Run, run, isDigit, digitNext, fewest, restored, figures}
+use Rattle.rows.proofs.Outcomes.{Holds, value, holds-cond}
 use Rattle.reading.proofs.Outcomes.{Reads, Table, Placed, placed-behind, wrong-told}
 
 abbrev tens : (n : ℕ) → 0 < 10 ^ n

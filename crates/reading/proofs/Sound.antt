@@ -1,25 +1,34 @@
 -- Soundness: the program that the fourth stage answers stands as the kept rows.
-use Prim.Native.Nat.{ℕ}
+use Prim.Native.Nat.{ℕ, _<_}
+use lib.ListN.{length}
 use mathlib.Core.Path.{_≡_}
-use mathlib.Core.Bool.{false}
+use mathlib.Core.Bool.{Bool, true, false}
 use mathlib.Core.List.{List, [], _∷_, map}
 use Rattle.rows.specs.Answer.{Answer, taken, refused}
 use Rattle.rows.specs.Kept.{KeptRow}
 use Rattle.rows.specs.Passes.{Every}
-use Rattle.rows.proofs.Outcomes.{Holds, refusal, value, of-taken}
 use Rattle.speeds.specs.Meaning.{speedFor}
 use Rattle.shorthand.specs.declared.Kind.{Kind}
 use Rattle.shorthand.specs.declared.Kind.the-variants.{Plain}
 use Rattle.shorthand.specs.declared.Item.{Item}
 use Rattle.shorthand.specs.declared.Format.{Format}
 use Rattle.shorthand.specs.Layout.{itemsOf}
-use Rattle.reading.specs.Relation.{Blocks, none, more, Program, program, chars}
-use Rattle.reading.specs.Figures.{Behind}
-use Rattle.reading.specs.Parse.{BlockRead, blockAt, headAt, Entry}
+use Rattle.reading.specs.Relation.{Worded, End, Blocks, none, more, Program, program, chars}
+use Rattle.words.specs.Figures.{Behind, fronts}
+use Rattle.parts.specs.Ends.{closeAt}
+use Rattle.words.specs.Data.{wordAt}
+use Rattle.parts.specs.Items.{steps}
+use Rattle.reading.specs.Parse.{BlockRead, blockAt, Entry}
+use Rattle.parts.specs.Ends.{headAt}
 use Rattle.reading.specs.Answers.{programAt}
-use Rattle.reading.proofs.Outcomes.{Reads, Placed, no-row, next-row, chars-append}
+use Rattle.parts.specs.declared.Begun.{Begun}
+use Rattle.words.specs.declared.Word.{Word}
+use Rattle.parts.specs.Starts.{startAt}
+use Rattle.rows.proofs.Outcomes.{Holds, refusal, value, of-taken}
+use Rattle.reading.proofs.Outcomes.{Reads, Table, Placed, no-row, next-row, chars-append, reads-map}
 use Rattle.reading.proofs.ReadData.{Sayable}
-use Rattle.reading.proofs.ReadBlocks.{BlockRows, block-read, HeadRows, head-read, Entries, ProgramRows, program-read}
+use Rattle.reading.proofs.ReadWords.{Stepped, steps-over, word-read}
+use Rattle.reading.proofs.ReadBlocks.{Last, ended-read, start-some, start-read, BlockRows, block-read, HeadRows, head-read, Entries, ProgramRows, program-read}
 
 -- ---- where nothing is asked of refusals
 
@@ -51,11 +60,28 @@ pub taken-rows : (f : Format) (len : ℕ) (rs : List KeptRow) (es : List Entry) 
 taken-rows f len rs es e = of-taken (program-read (record { at-row = λ n l h p a. tt; no-head = tt; cut = tt }) f (any-items (itemsOf f)) rs (any-rows rs)) e
 
 -- a block's rows, and what is behind them
-pub block-rows : (f : Format) (len : ℕ) (rs : List KeptRow) (b : Behind BlockRead) → blockAt len f rs ≡ taken b → Reads (BlockRows f false) rs b
+pub block-rows : (f : Format) (len : ℕ) (rs : List KeptRow) (b : Behind BlockRead) → blockAt len f rs ≡ taken b → Reads (BlockRows f) rs b
 block-rows f len rs b e = of-taken (block-read (record { at-row = λ n l h p a. tt; no-head = tt; cut = tt }) f (any-items (itemsOf f)) rs (any-rows rs)) e
 
 pub head-rows : (len : ℕ) (rs : List KeptRow) (x : Behind ℕ) → headAt len rs ≡ taken x → Reads HeadRows rs x
 head-rows len rs x e = of-taken (head-read {Q = AnyRefusal} {P = AnyPlace} (record { at-row = λ n l h p a. tt; no-head = tt; cut = tt }) rs (any-rows rs)) e
+
+-- the rows that the parts of a block take, and what is behind them
+module _ (len : ℕ) (rs : List KeptRow) where
+  any-table : Table AnyRefusal AnyPlace len
+  any-table = record { at-row = λ n l h p a. tt; no-head = tt; cut = tt }
+
+  pub start-rows : (digits : ℕ) (x : Behind Begun) → startAt len digits rs ≡ taken x → Reads (λ b s. 0 < length s) rs x
+  start-rows digits x e = of-taken (reads-map (start-some digits) (start-read any-table digits rs (any-rows rs))) e
+
+  pub step-rows : (tabs : Bool) → steps tabs rs ≡ true → Stepped AnyPlace tabs rs
+  step-rows tabs e = steps-over tabs rs (any-rows rs) e
+
+  pub word-rows : (it : Item) (x : Behind Word) → fronts (it .letter) rs ≡ true → wordAt len it rs ≡ taken x → Reads (λ w s. Worded it w (chars s)) rs x
+  word-rows it x f e = of-taken (word-read any-table it (any-kind (it .kind)) rs (any-rows rs) f) e
+
+  pub end-rows : (x : Behind ℕ) → closeAt len rs ≡ taken x → Reads (λ p s. End (chars s) × Last p s) rs x
+  end-rows x e = of-taken (ended-read any-table 14 10 tt (λ p a. tt) rs (any-rows rs)) e
 
 -- ---- soundness
 

@@ -20,11 +20,11 @@ use Rattle.shorthand.specs.declared.Kind.the-variants.{Plain}
 use Rattle.shorthand.specs.declared.Item.{Item}
 use Rattle.shorthand.specs.Layout.{Sign, barred, required, optional, signOf, width}
 use Rattle.shorthand.specs.Facts.{Widths}
-use Rattle.reading.specs.declared.Value.{Value}
-use Rattle.reading.specs.declared.Word.{Word}
+use Rattle.words.specs.declared.Value.{Value}
+use Rattle.words.specs.declared.Word.{Word}
 use Rattle.reading.specs.Relation.{digits, Punched, in-full, front, back, Signed, never, plus, minus, plus-stands, minus-stands, plus-missing, Data, number, speed, dimension, Worded, word, chars}
-use Rattle.reading.specs.Figures.{behind, frontPlace, isDigit, restored, fewest, figures, isSign, mayStand, mayMiss, signed}
-use Rattle.reading.specs.Parse.{missingOf, signedValue, meant, dataAt, wordAt}
+use Rattle.words.specs.Figures.{behind, frontPlace, isDigit, restored, fewest, figures, isSign, mayStand, mayMiss, signed}
+use Rattle.words.specs.Data.{missingOf, signedValue, meant, dataAt, wordAt}
 use Rattle.reading.proofs.DigitRows.{Digit, worth, digits-length, digits-digit, digits-worth, leading-worth, leading-length, leading-digit, trailing-worth, trailing-length, trailing-digit}
 use Rattle.reading.proofs.RowsAhead.{heads, digit-heads, behind-chars, digit-no-sign, Takes, run-takes}
 

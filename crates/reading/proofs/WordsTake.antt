@@ -11,10 +11,12 @@ use Rattle.rows.specs.Kept.{KeptRow}
 use Rattle.shorthand.specs.declared.Item.{Item}
 use Rattle.shorthand.specs.Edition.{letters, anyOf}
 use Rattle.shorthand.specs.Facts.{Fair, none, more}
-use Rattle.reading.specs.declared.Word.{Word}
+use Rattle.words.specs.declared.Word.{Word}
 use Rattle.reading.specs.Relation.{Worded, word, tab, Words, done, out, here, End, lf, cr-lf, chars}
-use Rattle.reading.specs.Figures.{isDigit}
-use Rattle.reading.specs.Parse.{wordAt, steps, stepped, wordsAt}
+use Rattle.words.specs.Figures.{isDigit}
+use Rattle.words.specs.Data.{wordAt}
+use Rattle.parts.specs.Items.{steps, stepped}
+use Rattle.reading.specs.Parse.{wordsAt}
 use Rattle.reading.proofs.RowsAhead.{heads, fronts-heads, behind-chars, Takes}
 use Rattle.reading.proofs.WordTakes.{word-takes}
 

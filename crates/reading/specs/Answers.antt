@@ -11,7 +11,8 @@ use Rattle.shorthand.specs.declared.Format.{Format}
 use Rattle.shorthand.specs.Parse.{parsed}
 use Rattle.reading.specs.declared.Block.{Block}
 use Rattle.reading.specs.Record.{emptyBlock}
-use Rattle.reading.specs.Parse.{Entry, headAt, blocksAt}
+use Rattle.reading.specs.Parse.{Entry, blocksAt}
+use Rattle.parts.specs.Ends.{headAt}
 
 -- the fourth stage: the head, and then blocks to the end of the tape
 unfoldable pub programAt : ℕ → Format → List KeptRow → Answer (List Entry)

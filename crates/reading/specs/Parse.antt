@@ -1,67 +1,23 @@
--- The answer of the fourth stage: a word, the words of a block, a block, the head, and all blocks of the kept rows (document 01).
+-- The answer of the fourth stage: the words of a block, a block, and all blocks of the kept rows (document 01).
 use Prim.Native.Nat.{ℕ, zero, suc, _+_}
-use mathlib.Core.Bool.{Bool, true, false, _||_, cond}
+use mathlib.Core.Bool.{Bool, cond}
 use mathlib.Core.List.{List, [], _∷_}
-use lib.IntN.{ℤ, pos, negℤ}
-use Rattle.rows.specs.Answer.{Answer, taken, refused, _>>=_}
+use Rattle.rows.specs.Answer.{Answer, taken, _>>=_}
 use Rattle.rows.specs.Kept.{KeptRow}
-use Rattle.speeds.specs.Meaning.{speedFor}
-use Rattle.shorthand.specs.declared.Missing.{Missing}
-use Rattle.shorthand.specs.declared.Missing.the-variants.{Nothing}
-use Rattle.shorthand.specs.declared.Kind.{Kind}
-use Rattle.shorthand.specs.declared.Kind.the-variants.{Plain}
 use Rattle.shorthand.specs.declared.Item.{Item}
 use Rattle.shorthand.specs.declared.Format.{Format}
-use Rattle.shorthand.specs.Layout.{itemsOf, width, signOf}
-use Rattle.reading.specs.declared.Value.{Value}
-use Rattle.reading.specs.declared.Value.the-variants.{Number}
-use Rattle.reading.specs.declared.Word.{Word}
+use Rattle.shorthand.specs.Layout.{itemsOf}
+use Rattle.words.specs.declared.Word.{Word}
+use Rattle.words.specs.Figures.{Behind, taking, fronts}
+use Rattle.words.specs.Data.{wordAt}
+use Rattle.parts.specs.declared.Begun.{Begun}
+use Rattle.parts.specs.Ends.{closeAt}
+use Rattle.parts.specs.Starts.{startAt}
+use Rattle.parts.specs.Items.{steps, stepped}
 use Rattle.reading.specs.declared.Block.{Block}
 use Rattle.reading.specs.Record.{blockOf}
-use Rattle.reading.specs.Figures.{Behind, taking, wrong, fronts, behind, frontPlace, ended, figures, signed}
-
--- ---- a word
-
-abbrev pub missingOf : Kind → Missing
-missingOf (Plain n) = Nothing
-missingOf (Kind.Speed k) = Nothing
-missingOf (Kind.Dimension d) = d .missing
-
--- minus zero is zero
-abbrev pub signedValue : Bool → ℕ → ℤ
-signedValue true m = negℤ (pos m)
-signedValue false m = pos m
-
--- 13 stands at the address
-abbrev pub spoken : ℕ → Answer ℕ → Answer Value
-spoken a (taken v) = taken (Value.Speed v)
-spoken a (refused n p) = refused n a
-
--- what the figures of a word mean, whose address stands at row a
-abbrev pub meant : ℕ → Kind → Bool → ℕ → Answer Value
-meant a (Plain n) minus m = taken (Number m)
-meant a (Kind.Speed k) minus m = spoken a (speedFor k m)
-meant a (Kind.Dimension d) minus m = taken (Value.Dimension (signedValue minus m))
-
--- the data behind an address at row a: the sign (12), the digits (11), and then 13
-unfoldable pub dataAt : ℕ → ℕ → Kind → List KeptRow → Answer (Behind Value)
-dataAt len a k rs =
-    signed len (signOf k) rs >>= λ s. figures len 11 (missingOf k) (width k) (s .rest) >>= λ m. meant a k (s .value) (m .value) >>= λ x. taking x (m .rest)
-
--- the word of an item whose address stands at the front
-abbrev pub wordAt : ℕ → Item → List KeptRow → Answer (Behind Word)
-wordAt len it rs = dataAt len (frontPlace rs) (it .kind) (behind rs) >>= λ x. taking (record { letter = it .letter; value = x .value }) (x .rest)
 
 -- ---- the words of a block
-
--- whether the next item can be reached: with tabs an HT stands at the front
-abbrev pub steps : Bool → List KeptRow → Bool
-steps true rs = fronts 9 rs
-steps false rs = true
-
-abbrev pub stepped : Bool → List KeptRow → List KeptRow
-stepped true rs = behind rs
-stepped false rs = rs
 
 abbrev pub consWord : Word → Answer (Behind (List Word)) → Answer (Behind (List Word))
 consWord w a = a >>= λ x. taking (w ∷ x .value) (x .rest)
@@ -82,22 +38,19 @@ pub record BlockRead : Type 0 where
   pub block : Block
   pub lf : ℕ
 
--- N or ":" and the digits of its number (9); the words; an end, or 10 at any other row
-abbrev pub sequenced : ℕ → Format → Bool → List KeptRow → Answer (Behind BlockRead)
-sequenced len f skip rs =
-    cond (fronts 78 rs || fronts 58 rs)
-    (figures len 9 Nothing (f .sequence) (behind rs) >>= λ n. wordsAt len (f .dots) (itemsOf f) (n .rest) >>= λ ws. ended len 14 10 (ws .rest) >>= λ e.
-    taking (record { block = blockOf skip (fronts 58 rs) (n .value) (ws .value); lf = e .value }) (e .rest))
-    (wrong len 14 9 rs)
+-- the block that has begun so, with these words
+abbrev pub built : Begun → List Word → Block
+built b ws = blockOf (b .skip) (b .alignment) (b .sequence) ws
+
+-- behind its start: the words, and an end, or 10 at any other row
+abbrev pub wordsAndEnd : ℕ → Format → Behind Begun → Answer (Behind BlockRead)
+wordsAndEnd len f s =
+    wordsAt len (f .dots) (itemsOf f) (s .rest) >>= λ ws. closeAt len (ws .rest) >>= λ e. taking (record { block = built (s .value) (ws .value); lf = e .value }) (e .rest)
 
 unfoldable pub blockAt : ℕ → Format → List KeptRow → Answer (Behind BlockRead)
-blockAt len f rs = cond (fronts 47 rs) (sequenced len f true (behind rs)) (sequenced len f false rs)
+blockAt len f rs = startAt len (f .sequence) rs >>= wordsAndEnd len f
 
--- ---- the head and all blocks
-
--- "%" and an end, or 8
-unfoldable pub headAt : ℕ → List KeptRow → Answer (Behind ℕ)
-headAt len rs = cond (fronts 37 rs) (ended len 8 8 (behind rs)) (wrong len 8 8 rs)
+-- ---- all blocks
 
 -- a block of a tape, and its rows: from just after the end before it to its own LF, included
 pub record Entry : Type 0 where

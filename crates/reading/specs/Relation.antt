@@ -20,9 +20,9 @@ use Rattle.shorthand.specs.declared.Format.{Format}
 use Rattle.shorthand.specs.Layout.{itemsOf, Sign, barred, required, optional, signOf}
 use Rattle.shorthand.specs.Lawful.{Lawful}
 use Rattle.shorthand.specs.Spell.{spell}
-use Rattle.reading.specs.declared.Value.{Value}
-use Rattle.reading.specs.declared.Value.the-variants.{Number}
-use Rattle.reading.specs.declared.Word.{Word}
+use Rattle.words.specs.declared.Value.{Value}
+use Rattle.words.specs.declared.Value.the-variants.{Number}
+use Rattle.words.specs.declared.Word.{Word}
 use Rattle.reading.specs.declared.Block.{Block}
 use Rattle.reading.specs.Record.{blockOf}
 

@@ -1,5 +1,4 @@
-// Reading: the blocks of a tape under an edition and a shorthand: their number, block n, its rows; and the steps of a walk over them: the head, the start of a
-// block, an item, its word, an end.
+// Reading: the blocks of a tape under an edition and a shorthand: their number, block n, its rows.
 ghost use mathlib.Core.Path.{_≡_};
 ghost use mathlib.Core.List.{[]};
 ghost use Rattle.rows.specs.Answer.{numberOf, placeOf, told, void, valueOr};
@@ -8,32 +7,16 @@ ghost use Rattle.reading.specs.Record.{emptyBlock};
 ghost use Rattle.reading.specs.Answers.{nowhere, read, entryNumbered, counted, blockNumbered, rowsNumbered};
 ghost use Rattle.reading.specs.Front.{countTold, sizeOf, partOf, partIn, blockIn, hasBlock};
 
-pub mod blocks;
-pub mod datum;
-pub mod figures;
-pub mod items;
+pub mod records;
 mod walk;
-pub mod words;
 
-use blocks::empty_block;
-use blocks::gather_block;
+use records::empty_block;
+use records::gather_block;
 use rows::Checked;
-use rows::Next;
 use rows::Refusal;
 use shorthand::Format;
 use walk::survey_tape;
-
-// What a word says: a plain number, a dimension in the last decimal place, or a speed in ten-millionths.
-pub enum Value {
-    Number(u64),
-    Dimension(i64),
-    Speed(u64),
-}
-
-pub struct Word {
-    pub letter: u8,
-    pub value: Value,
-}
+use words::Word;
 
 // A block: optional skip, alignment, its sequence number and its words. Places past the count hold letter 0 and plain number 0.
 pub struct Block {
@@ -42,94 +25,6 @@ pub struct Block {
     pub sequence: u64,
     pub count: usize,
     pub words: [Word; 22],
-}
-
-// ---- what the parsers answer: a value with the next kept row, or a refusal
-
-// The place of an end's LF, and the place after it.
-pub enum EndFound {
-    At(usize, usize),
-    Refused(Refusal),
-}
-
-pub enum EndRead {
-    At(usize, Next),
-    Refused(Refusal),
-}
-
-pub struct Digits {
-    pub number: u64,
-    pub count: usize,
-    pub front: Next,
-}
-
-// Digits one right behind another: the number and how many they make with those before, and the place behind them.
-pub struct Stretch {
-    pub number: u64,
-    pub count: usize,
-    pub at: usize,
-}
-
-pub enum FiguresRead {
-    Number(u64, Next),
-    Refused(Refusal),
-}
-
-pub enum SignRead {
-    Minus(bool),
-    Refused(Refusal),
-}
-
-pub enum Meant {
-    Is(Value),
-    Refused(Refusal),
-}
-
-pub enum DataRead {
-    Is(Value, Next),
-    Refused(Refusal),
-}
-
-pub enum WordRead {
-    Is(Word, Next),
-    Refused(Refusal),
-}
-
-// How an item stands: it can't be reached, its word is left out, or its address is at a place.
-pub enum Reach {
-    Stops,
-    Out(Next),
-    At(usize, usize),
-}
-
-// What is passed by and not kept, an item or the start of a block: nothing is there to be passed, or the row behind it.
-pub enum Passed {
-    Nothing,
-    Behind(Next),
-    Refused(Refusal),
-}
-
-pub enum WordsRead {
-    Done(Next),
-    Refused(Refusal),
-}
-
-pub struct Gathered {
-    pub words: WordsRead,
-    pub block: Block,
-}
-
-// What a block begins with.
-pub struct Start {
-    pub skip: bool,
-    pub alignment: bool,
-    pub sequence: u64,
-    pub front: Next,
-}
-
-pub enum StartRead {
-    Is(Start),
-    Refused(Refusal),
 }
 
 // The number of blocks.
@@ -230,7 +125,7 @@ fn read_under(tape: &[u8], format: Format, n: usize) -> BlockAnswer
     }
     BlockAnswer {
         outcome: Checked::Clean,
-        block: gather_block(tape, format, rows::next_kept(tape, part.from)),
+        block: gather_block(tape, format, part.from),
     }
 }
 

@@ -10,6 +10,7 @@ pub mod Answered
 pub mod Accepted
 pub mod Fairness
 pub mod OneItem
+pub mod FormatItems
 pub mod Refusals
 pub mod Fronts
 pub mod Starred

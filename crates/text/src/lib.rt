@@ -5,12 +5,13 @@ ghost use mathlib.Core.List.{[], _∷_};
 ghost use Prim.Native.Nat.{_+_, _≤_, _<_, max};
 ghost use lib.ListN.{length};
 ghost use Rattle.io.specs.Digits.{digits, Fewest};
-ghost use Rattle.reading.specs.declared.Value.the-variants.{Dimension};
+ghost use Rattle.words.specs.declared.Value.the-variants.{Dimension};
 ghost use Rattle.text.specs.Text.{decimal, full, valueText, wordText, startText};
 ghost use Rattle.text.specs.Line.{Put};
+use parts::Begun;
 use punching::magnitude_of;
-use reading::Value;
-use reading::Word;
+use words::Value;
+use words::Word;
 
 pub fn put(line: &mut [u8], at: usize, b: u8) -> usize
     requires { ⌜ at < length (now line) ⌝ }
@@ -134,18 +135,14 @@ fn either(first: bool, a: u8, b: u8) -> u8
 }
 
 // N or ":", the sequence number, and "/" or "-".
-pub fn put_start(
-    line: &mut [u8],
-    start: usize,
-    digits: u8,
-    skip: bool,
-    alignment: bool,
-    sequence: u64,
-) -> usize
+pub fn put_start(line: &mut [u8], start: usize, digits: u8, begun: Begun) -> usize
     requires { ⌜ start + digits + 24 ≤ length (now line) ⌝ }
-    ensures put { λ r. ⌜ Put (now (line .entry)) start (startText digits skip alignment sequence) (now (line .exit)) r ⌝ }
+    ensures put { λ r. ⌜ Put (now (line .entry)) start (startText digits (begun .skip) (begun .alignment) (begun .sequence)) (now (line .exit)) r ⌝ }
     ensures end { λ r. ⌜ r ≤ start + digits + 24 ⌝ }
 {
+    let skip = begun.skip;
+    let alignment = begun.alignment;
+    let sequence = begun.sequence;
     let at = put(line, start, either(alignment, 58, 78));
     let number = put(line, at, 32);
     let next = put_full(line, number, digits, sequence);

@@ -46,15 +46,15 @@ fn write_dimension(z: i64) {
     write_number(z as u64);
 }
 
-fn write_word(word: reading::Word) {
+fn write_word(word: words::Word) {
     io::write_all(STDOUT_FILENO, b" ");
     let letter = [word.letter];
     io::write_all(STDOUT_FILENO, &letter);
     let value = word.value;
     match value {
-        reading::Value::Number(v) => write_number(v),
-        reading::Value::Dimension(z) => write_dimension(z),
-        reading::Value::Speed(v) => write_number(v),
+        words::Value::Number(v) => write_number(v),
+        words::Value::Dimension(z) => write_dimension(z),
+        words::Value::Speed(v) => write_number(v),
     }
 }
 

@@ -7,7 +7,7 @@ use crate::text::second;
 use crate::text::upto_space;
 use crate::text::write_number;
 use punching::Punched;
-use reading::Value;
+use words::Value;
 
 fn write_row(row: u8) {
     write_number(row as u64);
@@ -100,10 +100,10 @@ pub fn record(rest: &[u8], tape: &mut [u8]) {
     let letter = second(count);
     let kind = second(letter);
     let room = number(asked) as usize;
-    let mut block = reading::blocks::empty_block();
+    let mut block = reading::records::empty_block();
     block.sequence = number(sequence);
     block.count = number(count) as usize;
-    block.words[0] = reading::Word {
+    block.words[0] = words::Word {
         letter: first_of(letter),
         value: value_of(first_of(kind), number(second(kind))),
     };

@@ -8,7 +8,7 @@ use Rattle.reading.proofs.Numbered.{parsed-facts, under, under-refused,
 use borrow.Author.Needs.{needs}
 use Rattle.reading.proofs.read_block.Statement.{statement}
 use Rattle.reading.proofs.read_block.Tie as tie
-use Rattle.reading.proofs.blocks.empty_block.Reads as empty-block-reads
+use Rattle.reading.proofs.records.empty_block.Reads as empty-block-reads
 use Rattle.reading.proofs.read_under.Reads as read-under-reads
 use Rattle.shorthand.proofs.parse.Reads as parse-reads
 

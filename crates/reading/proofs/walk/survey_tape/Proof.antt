@@ -1,36 +1,52 @@
--- `reading::walk::survey_tape`: by what the first three stages answered.
-use mathlib.Core.Path.{_≡_, _∙_, sym, ap}
+-- `reading::walk::survey_tape`: by what the head answered.
+use mathlib.Core.Path.{_∙_, sym, ap}
+use native.Mathlib.Omega.{arith}
 use borrow.Author.Needs.{needs}
-use Rattle.rows.specs.Answer.{told}
-use Rattle.reading.specs.Answers.{read}
+use denote.Ref.{now}
+use Rattle.rows.specs.Answer.{refusal}
+use Rattle.parts.specs.Front.{endTold, endRefusal}
 use Rattle.reading.specs.Front.{sizeOf, partIn}
-use Rattle.reading.proofs.BlockWalk.{read-refused, read-clean}
+use Rattle.reading.proofs.BlockWalk.{not-entered, enters-at, enters}
 use Rattle.reading.proofs.walk.survey_tape.Statement.{statement}
 use Rattle.reading.proofs.walk.survey_tape.Tie as tie
 
-check-requires : tie.Need-check-requires
-check-requires c κs = search needs
+enter-tape-requires : tie.Need-enter-tape-requires
+enter-tape-requires c κs = search needs
 
-enum-known-r : tie.Need-enum-known-r
-enum-known-r c = search needs
-
-returns : tie.Need-returns
-returns c =
-    let e = read-refused _ _ _ _ (sym (c .before .before .before .check .ensures) ∙ ap told (c .before .r .given .1)) in
-    (sym (ap sizeOf e), sym (ap (partIn _) e))
+enum-known-head : tie.Need-enum-known-head
+enum-known-head c = search needs
 
 enum-told : tie.Need-enum-told
 enum-told c = search needs
 
-survey-program-requires : tie.Need-survey-program-requires
-survey-program-requires c κs = search needs
+end-refusal-requires : tie.Need-end-refusal-requires
+end-refusal-requires c κs = search needs
+
+returns : tie.Need-returns
+returns c =
+    let e = not-entered _ _ _ _ (sym (c .before .before .before .enter-tape .ensures) ∙ ap (endTold _) (c .before .enum-told .given .1)) in
+    (ap refusal (c .end-refusal .ensures ∙ ap endRefusal (c .before .enum-told .given .1)) ∙ sym (ap sizeOf e), sym (ap (partIn _) e))
+
+add-survey-blocks : tie.Need-add-survey-blocks
+add-survey-blocks c = omega (arith, enters-at (now (c .before .before .before .before .before .args .tape)) _ _ (sym (c .before .before .before .enter-tape .ensures) ∙ ap (endTold _) (c .before .head .given .1)) .0)
+
+survey-blocks-requires : tie.Need-survey-blocks-requires
+survey-blocks-requires c κs = (c .before .before .before .before .before .pre, enters-at (now (c .before .before .before .before .before .args .tape)) _ _ (sym (c .before .before .before .enter-tape .ensures) ∙ ap (endTold _) (c .before .head .given .1)) .1)
 
 returns-2 : tie.Need-returns-2
 returns-2 c =
-    let e = read-clean _ _ (sym (c .before .before .before .check .ensures) ∙ ap told (c .before .enum-told .given .1)) in
-    (c .survey-program .ensures .0 ∙ sym (ap sizeOf e), c .survey-program .ensures .1 ∙ sym (ap (partIn _) e))
+    let e = enters _ _ _ _ (sym (c .before .before .before .before .enter-tape .ensures) ∙ ap (endTold _) (c .before .before .head .given .1)) in
+    (c .survey-blocks .ensures .0 ∙ sym (ap sizeOf e), c .survey-blocks .ensures .1 ∙ sym (ap (partIn _) e))
 
 pub survey-tape-spec : {M : Type 1} → statement M
 survey-tape-spec =
     tie.close
-    (tie.spec check-requires enum-known-r returns enum-told survey-program-requires returns-2)
+    (tie.spec
+    enter-tape-requires
+    enum-known-head
+    enum-told
+    end-refusal-requires
+    returns
+    add-survey-blocks
+    survey-blocks-requires
+    returns-2)

@@ -1,0 +1,45 @@
+// Parts: what a block is made of, and the head before it: an end, a start, and how an item stands.
+pub mod ends;
+pub mod items;
+pub mod starts;
+
+use rows::Next;
+use rows::Refusal;
+
+// The place of an end's LF, and the place after it.
+pub enum EndFound {
+    At(usize, usize),
+    Refused(Refusal),
+}
+
+// The place of an end's LF, and the next kept row.
+pub enum EndRead {
+    At(usize, Next),
+    Refused(Refusal),
+}
+
+// What a block begins with.
+pub struct Begun {
+    pub skip: bool,
+    pub alignment: bool,
+    pub sequence: u64,
+}
+
+pub enum StartRead {
+    Is(Begun, Next),
+    Refused(Refusal),
+}
+
+// How an item stands: it can't be reached, its word is left out, or its address is at a place.
+pub enum Reach {
+    Stops,
+    Out(Next),
+    At(usize, usize),
+}
+
+// What a step has to know of a Format: N's digits, tabs or none, and how many items there are.
+pub struct Rules {
+    pub digits: usize,
+    pub dots: bool,
+    pub items: usize,
+}

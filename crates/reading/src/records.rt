@@ -1,0 +1,102 @@
+// A block gathered into its record.
+ghost use mathlib.Core.Path.{_≡_};
+ghost use mathlib.Core.List.{[]};
+ghost use Prim.Native.Nat.{_+_, _<_};
+ghost use lib.ListN.{length, set};
+ghost use Rattle.rows.specs.Kept.{keptAt};
+ghost use Rattle.shorthand.specs.Facts.{Facts};
+ghost use Rattle.reading.specs.Record.{emptyBlock};
+ghost use Rattle.reading.specs.Parse.{built, blocksAt};
+ghost use Rattle.reading.specs.Front.{blockIn};
+use crate::Block;
+use parts::Begun;
+use parts::items::lead_letters;
+use parts::items::rules_of;
+use shorthand::Format;
+use steps::Cursor;
+use steps::Event;
+use steps::Stage;
+use steps::walking::take_step;
+use words::Value;
+use words::Word;
+
+// A block with no words yet.
+fn new_block(begun: Begun) -> Block
+    ensures { λ r. ⌜ r ≡ built begun [] ⌝ }
+{
+    let blank = Word {
+        letter: 0,
+        value: Value::Number(0),
+    };
+    Block {
+        skip: begun.skip,
+        alignment: begun.alignment,
+        sequence: begun.sequence,
+        count: 0,
+        words: [blank; 22],
+    }
+}
+
+// A block with one more word.
+fn with_word(block: Block, word: Word) -> Block
+    requires { ⌜ block .count < 22 ⌝ }
+    ensures { λ r. ⌜ r ≡ record { skip = block .skip; alignment = block .alignment; sequence = block .sequence; count = block .count + 1; words = set (block .words) (block .count) word } ⌝ }
+{
+    let mut next = block;
+    let at = block.count;
+    next.words[at] = word;
+    next.count = at + 1;
+    next
+}
+
+// What a refusal hands back.
+pub fn empty_block() -> Block
+    ensures { λ r. ⌜ r ≡ emptyBlock ⌝ }
+{
+    new_block(Begun {
+        skip: false,
+        alignment: false,
+        sequence: 0,
+    })
+}
+
+// The record of the block that begins at a row; an empty one where none does.
+pub(crate) fn gather_block(tape: &[u8], format: Format, from: usize) -> Block
+    requires { ⌜ Facts format ⌝ }
+    ensures { λ r. ⌜ r ≡ blockIn 0 (blocksAt 1 (length (now (tape .entry))) format from (keptAt (now (tape .entry)) from)) ⌝ }
+{
+    let rules = rules_of(format);
+    let leads = lead_letters(format);
+    let mut cursor = Cursor {
+        stage: Stage::Between,
+        item: 0,
+        front: rows::next_kept(tape, from),
+    };
+    let mut block = empty_block();
+    loop {
+        let k = cursor.item;
+        let item = format.items[k];
+        let step = take_step(tape, rules, &leads[..], item, cursor);
+        let event = step.event;
+        let next = step.cursor;
+        cursor = next;
+        match event {
+            Event::Opened(begun) => {
+                block = new_block(begun);
+            }
+            Event::Read(word) => {
+                block = with_word(block, word);
+            }
+            Event::Closed(_) => {
+                return block;
+            }
+            Event::Finished => {
+                return empty_block();
+            }
+            Event::Refused(_) => {
+                return empty_block();
+            }
+            Event::Out => {}
+        }
+    }
+}

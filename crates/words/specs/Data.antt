@@ -1,0 +1,48 @@
+-- A word: what stands behind its address, by its item's kind (document 01, "Four stages" and the refusal table: 11, 12, 13).
+use Prim.Native.Nat.{ℕ}
+use mathlib.Core.Bool.{Bool, true, false}
+use mathlib.Core.List.{List}
+use lib.IntN.{ℤ, pos, negℤ}
+use Rattle.rows.specs.Answer.{Answer, taken, refused, _>>=_}
+use Rattle.rows.specs.Kept.{KeptRow}
+use Rattle.speeds.specs.Meaning.{speedFor}
+use Rattle.shorthand.specs.declared.Missing.{Missing}
+use Rattle.shorthand.specs.declared.Missing.the-variants.{Nothing}
+use Rattle.shorthand.specs.declared.Kind.{Kind}
+use Rattle.shorthand.specs.declared.Kind.the-variants.{Plain}
+use Rattle.shorthand.specs.declared.Item.{Item}
+use Rattle.shorthand.specs.Layout.{width, signOf}
+use Rattle.words.specs.declared.Value.{Value}
+use Rattle.words.specs.declared.Value.the-variants.{Number}
+use Rattle.words.specs.declared.Word.{Word}
+use Rattle.words.specs.Figures.{Behind, taking, behind, frontPlace, figures, signed}
+
+abbrev pub missingOf : Kind → Missing
+missingOf (Plain n) = Nothing
+missingOf (Kind.Speed k) = Nothing
+missingOf (Kind.Dimension d) = d .missing
+
+-- minus zero is zero
+abbrev pub signedValue : Bool → ℕ → ℤ
+signedValue true m = negℤ (pos m)
+signedValue false m = pos m
+
+-- 13 stands at the address
+abbrev pub spoken : ℕ → Answer ℕ → Answer Value
+spoken a (taken v) = taken (Value.Speed v)
+spoken a (refused n p) = refused n a
+
+-- what the figures of a word mean, whose address stands at row a
+abbrev pub meant : ℕ → Kind → Bool → ℕ → Answer Value
+meant a (Plain n) minus m = taken (Number m)
+meant a (Kind.Speed k) minus m = spoken a (speedFor k m)
+meant a (Kind.Dimension d) minus m = taken (Value.Dimension (signedValue minus m))
+
+-- the data behind an address at row a: the sign (12), the digits (11), and then 13
+unfoldable pub dataAt : ℕ → ℕ → Kind → List KeptRow → Answer (Behind Value)
+dataAt len a k rs =
+    signed len (signOf k) rs >>= λ s. figures len 11 (missingOf k) (width k) (s .rest) >>= λ m. meant a k (s .value) (m .value) >>= λ x. taking x (m .rest)
+
+-- the word of an item whose address stands at the front
+abbrev pub wordAt : ℕ → Item → List KeptRow → Answer (Behind Word)
+wordAt len it rs = dataAt len (frontPlace rs) (it .kind) (behind rs) >>= λ x. taking (record { letter = it .letter; value = x .value }) (x .rest)
