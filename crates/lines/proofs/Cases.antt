@@ -13,8 +13,11 @@ use Rattle.speeds.specs.Meaning.{meaning, speedFor}
 use Rattle.shorthand.specs.Edition.{rank, due, anyDue}
 use Rattle.shorthand.specs.Stand.{digitsOf, afterDigits, stand, standN}
 use Rattle.shorthand.specs.Parse.{itemsFrom, parsed}
-use Rattle.reading.specs.Figures.{run, figures}
-use Rattle.reading.specs.Parse.{dataAt, wordsAt, blockAt, headAt, blocksAt}
+use Rattle.words.specs.Figures.{run, figures}
+use Rattle.words.specs.Data.{dataAt}
+use Rattle.reading.specs.Parse.{wordsAt, blockAt, blocksAt}
+use Rattle.parts.specs.Ends.{headAt}
+use Rattle.parts.specs.Starts.{startAt}
 use Rattle.reading.specs.Answers.{programAt, read}
 use Rattle.reading.proofs.Cases.{rows}
 use Rattle.text.specs.Text.{text, decimalIn}
@@ -42,5 +45,5 @@ cases =
     ∷ []
 
 pub listings : map (λ c. listing (c .input)) cases ≡ map (λ c. text (c .output)) cases
-unfolding listing headerOf listedUnder decimalIn indexOf indexAfter parsed itemsFrom stand standN digitsOf afterDigits rank due anyDue read judged lowest scan entry ones keptFrom programAt headAt blocksAt blockAt wordsAt dataAt figures run speedFor meaning
+unfolding listing headerOf listedUnder decimalIn indexOf indexAfter parsed itemsFrom stand standN digitsOf afterDigits rank due anyDue read judged lowest scan entry ones keptFrom programAt headAt blocksAt blockAt startAt wordsAt dataAt figures run speedFor meaning
 listings = refl

@@ -1,7 +1,5 @@
--- Laws of the lines, of the pages and of the listing's input.
+-- Laws of the lines and of the listing's input.
 pub mod Printing
-pub mod Clearing
-pub mod Paging
-pub mod PageAfterPage
+pub mod Listed
 pub mod Headers
 pub mod Cases

@@ -1,4 +1,4 @@
-// Lines: what a listing shows of a tape's blocks, of their count and of a refusal, made in a lent buffer; and the header of the listing's input.
+// Lines: the last line of a listing, made in a lent buffer, and the header of the listing's input.
 ghost use mathlib.Core.Path.{_≡_};
 ghost use Prim.Native.Nat.{_≤_};
 ghost use lib.ListN.{length};
@@ -7,37 +7,15 @@ ghost use Rattle.lines.specs.Answers.{printedTold, bytesOf, closing};
 
 mod closing;
 pub mod input;
-mod many;
-pub mod pages;
 
 use closing::put_closing;
 use reading::Counted;
-use rows::Next;
 use rows::Refusal;
 use text::put_all;
 
 // How many bytes were put.
 pub enum Printed {
     Bytes(usize),
-    Refused(Refusal),
-}
-
-// How many blocks a page lists, how many bytes their lines are, and the row that the next page begins at.
-pub struct Sheet {
-    pub blocks: usize,
-    pub bytes: usize,
-    pub next: usize,
-}
-
-pub enum Page {
-    Lines(Sheet),
-    Refused(Refusal),
-}
-
-// What a step of a page read and put: nothing is there to be read, or the row behind it and the place behind what was put.
-pub enum Step {
-    Nothing,
-    Behind(Next, usize),
     Refused(Refusal),
 }
 

@@ -2,16 +2,24 @@
 // What it writes is made by `lines`; the proofs here are of safety alone.
 ghost use mathlib.Core.Path.{_≡_};
 ghost use lib.ListN.{length};
+ghost use mathlib.Core.List.{List};
+ghost use Rattle.shorthand.specs.Facts.{Facts};
+ghost use Rattle.reading.specs.Parse.{Entry};
+ghost use Rattle.reading.specs.Front.{countTold, sizeOf};
+ghost use Rattle.reading.specs.Remains.{Remains};
+ghost use Rattle.lines.specs.Listing.{listedUnder};
 use libc::STDIN_FILENO;
 use libc::STDOUT_FILENO;
-use lines::Page;
 use lines::Printed;
 use lines::input::count_listed;
 use lines::input::read_header;
-use lines::pages::list_page;
+use pages::Page;
+use pages::list_page;
+use parts::EndRead;
+use parts::ends::enter_tape;
 use reading::Counted;
-use reading::EndRead;
-use reading::blocks::read_head;
+use rows::Checked;
+use shorthand::Format;
 
 // The 200 bytes that a header may have, 60,000 rows, and one byte more, by which too many rows are seen.
 fn input_space() -> [u8; 60201]
@@ -20,15 +28,15 @@ fn input_space() -> [u8; 60201]
     [0; 60201]
 }
 
-// The lines of so many blocks, page by page.
-fn write_pages(edition: u32, text: &[u8], tape: &[u8], count: usize, out: &mut [u8]) {
-    let EndRead::At(lf, _) = read_head(tape, rows::next_kept(tape, 0)) else {
-        return;
-    };
-    let mut from = lf + 1;
+// The lines of so many blocks of an accepted tape from a row on, page by page.
+fn write_pages(tape: &[u8], format: Format, first: usize, count: usize, out: &mut [u8])
+    requires { ⌜ Facts format ⌝ }
+    requires { ⌜ ((es : List Entry) × Remains format (now tape) first es) ⌝ }
+{
+    let mut from = first;
     let mut left = count;
     while 0 < left {
-        let Page::Lines(sheet) = list_page(edition, text, tape, from, out) else {
+        let Page::Lines(sheet) = list_page(tape, format, from, out) else {
             return;
         };
         io::write_all(STDOUT_FILENO, &out[..sheet.bytes]);
@@ -41,13 +49,22 @@ fn write_pages(edition: u32, text: &[u8], tape: &[u8], count: usize, out: &mut [
 }
 
 // A refused tape has no lines but the last.
-fn write_blocks(edition: u32, text: &[u8], tape: &[u8], count: Counted, out: &mut [u8]) {
-    match count {
-        Counted::Blocks(n) => {
-            write_pages(edition, text, tape, n, out);
-        }
-        Counted::Refused(_) => {}
-    }
+fn write_blocks(edition: u32, text: &[u8], tape: &[u8], count: Counted, out: &mut [u8])
+    requires { ⌜ countTold count ≡ sizeOf (listedUnder edition (now text) (now tape)) ⌝ }
+{
+    let Counted::Blocks(n) = count else {
+        return;
+    };
+    let parsed = shorthand::parse(edition, text);
+    let outcome = parsed.outcome;
+    let format = parsed.format;
+    let Checked::Clean = outcome else {
+        return;
+    };
+    let EndRead::At(lf, _) = enter_tape(tape) else {
+        return;
+    };
+    write_pages(tape, format, lf + 1, n, out);
 }
 
 fn write_last(count: Counted, out: &mut [u8]) {

@@ -1,0 +1,3 @@
+-- What the crate's promises cite: the page of a listing.
+pub mod Pages
+pub mod Adding
