@@ -1,18 +1,27 @@
 -- Demand 3: no tape is shared, and damage is found.
 use mathlib.Core.Path.{_≡_, ap, _∙_}
 use mathlib.Core.List.{List}
-use Prim.Native.Nat.{ℕ, _<_}
+use Prim.Native.Nat.{ℕ, _<_, _≤_}
+use native.Mathlib.Omega.{arith}
 use lib.ListN.{length, getD}
-use Rattle.rows.specs.Answer.{refused}
+use borrow.Author.Tests.{le-leb}
+use Rattle.rows.specs.Answer.{taken, refused}
 use Rattle.rows.specs.Stages.{judged}
 use Rattle.rows.specs.Passes.{Changed, Damaged, First}
 use Rattle.rows.proofs.Parity.{damaged, some-first}
+use Rattle.shorthand.specs.declared.Format.{Format}
 use Rattle.shorthand.specs.Parse.{parsed}
 use Rattle.shorthand.proofs.Accepted.{complete}
+use Rattle.parts.specs.Ends.{entered}
+use Rattle.parts.proofs.Entering.{entered-refused}
 use Rattle.reading.specs.declared.Block.{Block}
 use Rattle.reading.specs.Relation.{TapeOf}
+use Rattle.reading.specs.Parse.{Entry}
 use Rattle.reading.specs.Answers.{read, readUnder, counted, blockNumbered, rowsNumbered}
+use Rattle.reading.specs.Front.{sizeOf}
+use Rattle.reading.specs.Remains.{Remains, all, later}
 use Rattle.reading.proofs.Programs.{one-program}
+use Rattle.lines.specs.Listing.{most, listedUnder}
 
 module _ (e : ℕ) (s : List ℕ) where
   -- "Under one edition and shorthand two different programs never share a tape,
@@ -20,20 +29,43 @@ module _ (e : ℕ) (s : List ℕ) where
   pub never-shared : (t : List ℕ) (bs cs : List Block) → TapeOf e s bs t → TapeOf e s cs t → bs ≡ cs
   never-shared = one-program e s
 
-  -- every entry point that reads a tape refuses u by the number n at the place p
+  -- every function that reads a tape refuses u by the number n at the place p, each by the definition that its promise cites: rows::check, parts::enter_tape,
+  -- reading::count_blocks with crumbtrellis_count_blocks, read_block, block_rows, and lines::count_listed within its own limit of rows. pages::list_page asks
+  -- for what is left of an accepted tape, which u is not. All else that is handed rows takes a step of a walk, behind one of these
   pub record Refused (u : List ℕ) (n p : ℕ) : Type 0 where
     pub check : judged u ≡ refused n p
+    pub enter : entered u ≡ refused n p
     pub count : counted e s u ≡ refused n p
     pub block : (i : ℕ) → blockNumbered e s u i ≡ refused n p
     pub rows : (i : ℕ) → rowsNumbered e s u i ≡ refused n p
+    pub listed : length u ≤ most → sizeOf (listedUnder e s u) ≡ refused n p
+    pub pages : (f : Format) (from : ℕ) (es : List Entry) → Remains f u from es → ⊥
+
+  -- what is left of an accepted tape is not left of one that is not entered
+  none-remains : {f : Format} {u : List ℕ} {from : ℕ} {es : List Entry} (n p : ℕ) → entered u ≡ refused n p → Remains f u from es → ⊥
+  none-remains n p e (all r o) = let z : _≡_ {A = ℕ} 0 1 = cc in omega (arith, z)
+  none-remains n p e (later r) = none-remains n p e r
 
   -- "And if in any choice of rows of an accepted tape, at least one, an odd number of holes is changed in each, the tape is
   -- refused for parity at the first of those rows."
   pub damage-refused : (t u : List ℕ) (bs : List Block) → TapeOf e s bs t → Damaged t u
       → (i : ℕ) → i < length t → Changed (getD t i 0) (getD u i 0) → (k : ℕ) × First t u k × Refused u 5 k
-  unfolding readUnder read
+  unfolding readUnder read listedUnder
   damage-refused t u bs h d i l c =
       let f = some-first t u (h .passes .even) d i l c in
       let j : judged u ≡ refused 5 (f .0) = damaged t u (h .passes .even) d (h .passes .short) (f .0) (f .1) in
-      let r : readUnder e s u ≡ refused 5 (f .0) = rw (ap (parsed e) (h .spelt) ∙ complete (h .lawful), j) in
-      (f .0, f .1, record { check = j; count = rw r; block = λ i. rw r; rows = λ i. rw r })
+      let g : parsed e s ≡ taken (h .format) = ap (parsed e) (h .spelt) ∙ complete (h .lawful) in
+      let r : readUnder e s u ≡ refused 5 (f .0) = rw (g, j) in
+      let o = entered-refused u 5 (f .0) j in (
+        f .0,
+        f .1,
+        record {
+          check = j;
+          enter = o;
+          count = rw r;
+          block = λ i. rw r;
+          rows = λ i. rw r;
+          listed = λ few. rw (g, le-leb (length u) most few, j);
+          pages = λ f from es r. none-remains 5 _ o r;
+        },
+      )
