@@ -1,10 +1,9 @@
 -- Exactly: a tape is refused by 8 to 14 at a place where, and only where, what the refusal says holds of it.
-use Prim.Native.Nat.{ℕ, _≤_, _<_}
+use Prim.Native.Nat.{ℕ, _≤_}
 use mathlib.Core.Path.{_≡_, refl, sym, ap, _∙_, subst}
 use mathlib.Core.Logic.{_↔_, _⊎_, inl, inr}
-use mathlib.Core.List.{List, [], _∷_, _++_, append-nil, append-assoc}
-use native.Mathlib.Omega.{arith}
-use lib.ListN.{length, length-append}
+use mathlib.Core.List.{List, [], _∷_, append-nil}
+use lib.ListN.{length}
 use Rattle.rows.specs.Answer.{Answer, taken, refused}
 use Rattle.rows.specs.Kept.{KeptRow, kept}
 use Rattle.rows.proofs.Judged.{passes-clean}
@@ -14,37 +13,18 @@ use Rattle.shorthand.specs.Parse.{parsed}
 use Rattle.shorthand.proofs.Accepted as shorthand
 use Rattle.shorthand.proofs.Fairness.{lawful-facts}
 use Rattle.reading.specs.declared.Block.{Block}
-use Rattle.reading.specs.Relation.{End, lf, cr-lf, Program, chars}
+use Rattle.reading.specs.Relation.{Program, chars}
 use Rattle.reading.specs.Parse.{Entry}
 use Rattle.reading.specs.Answers.{programAt, read, readUnder}
 use Rattle.reading.proofs.Sound.{sound}
 use Rattle.places.specs.Begins.{Begins}
-use Rattle.places.specs.Faults.{Cut, in-head, in-block, Refusal, RefusalOf}
-use Rattle.places.proofs.Behind.{behind-none}
-use Rattle.places.proofs.Stems.{program-lf}
-use Rattle.places.proofs.Compared.{Split, same, sooner, later, compare}
+use Rattle.places.specs.Faults.{Cut, Refusal, RefusalOf}
+use Rattle.places.proofs.CutShort.{cut-none}
 use Rattle.places.proofs.RefusedRows.{refused-rows}
 use Rattle.places.proofs.RefusedTapes.{tape-refused}
 use Rattle.places.proofs.OneRefusal.{falls-short, one-refusal}
 
 -- ---- a refusal's rows are no program's
-
--- the LF that ends a program's rows is not in the rest of a head
-short-head : (y o w : List ℕ) → 0 < length o → ((u : List ℕ) → w ≡ y ++ (10 ∷ u) → ⊥) → y ++ (10 ∷ o) ≡ w ++ (10 ∷ []) → ⊥
-short-head y o w some far e = go (compare y w 10 o 10 [] e)
-  where
-    go : Split y w 10 o 10 [] → ⊥
-    go (same a b c) = let z = ap length c in omega arith
-    go (sooner u a b) = far u a
-    go (later u a b) = let z = ap length b in omega (arith, length-append u (10 ∷ o))
-
-cut-none : {f : Format} {bs : List Block} {n : ℕ} {x : List ℕ} → Cut f n x → Program f bs x → ⊥
-cut-none (in-head o end e some) p = let q = program-lf p in go (q .0) end (sym (append-assoc (q .0) (10 ∷ []) o) ∙ ap (λ l. l ++ o) (sym (q .1)) ∙ e)
-  where
-    go : (y : List ℕ) {e : List ℕ} → End e → y ++ (10 ∷ o) ≡ 37 ∷ e → ⊥
-    go y lf h = short-head y o (37 ∷ []) some (λ u k. behind-none 10 (λ z. ⊥) (37 ∷ []) ((λ i. omega arith), tt) y u k) h
-    go y cr-lf h = short-head y o (37 ∷ 13 ∷ []) some (λ u k. behind-none 10 (λ z. ⊥) (37 ∷ 13 ∷ []) ((λ i. omega arith), ((λ i. omega arith), tt)) y u k) h
-cut-none (in-block s q some nay) p = nay _ p
 
 no-program : {f : Format} → Facts f → (len : ℕ) (rs : List KeptRow) {n p : ℕ} → Refusal f len rs n p → (bs : List Block) → Program f bs (chars rs) → ⊥
 no-program {f} facts len rs {n} a bs q = go (falls-short facts len rs a)

@@ -33,4 +33,5 @@ pub mod OneNumber
 pub mod Compared
 pub mod SpeedRuns
 pub mod OneRefusal
+pub mod CutShort
 pub mod Exactly

@@ -39,7 +39,7 @@ module _ (k : ℕ) (low : 3 ≤ k) (high : k ≤ 5) where
   abbrev pub Means : List ℕ → Type 0
   Means ds = (c : ℕ) × (v : ℕ) × (speedFor k c ≡ taken v) × (ds ≡ digits k c)
 
-  zeros-mean : Means (zeros k)
+  pub zeros-mean : Means (zeros k)
   zeros-mean =
       (0, meaning k 0, speed-is 0 (one-le-pow k 10 (zero-lt-suc 9)) ∙ rw (and-false (ltb (0 % 10 ^ (k - 1)) (10 ^ (k - 2)))), sym (zero-digits k))
 

@@ -68,15 +68,15 @@ punched-kept (c ∷ cs) all i =
     let s = bare-stays c (all .0) in
     rw (s .punched .same, s .some, s .held, s .unopened) (ap (λ l. c ∷ l) (punched-kept cs (all .1) (suc i)))
 
-punched-even : (cs : List ℕ) → Bare cs → Every (λ b. T (even b)) (map rowOf cs)
+pub punched-even : (cs : List ℕ) → Bare cs → Every (λ b. T (even b)) (map rowOf cs)
 punched-even [] all = tt
 punched-even (c ∷ cs) all = (bare-stays c (all .0) .punched .even, punched-even cs (all .1))
 
-punched-known : (cs : List ℕ) → Bare cs → Every (λ b. T (among (character b) characters)) (map rowOf cs)
+pub punched-known : (cs : List ℕ) → Bare cs → Every (λ b. T (among (character b) characters)) (map rowOf cs)
 punched-known [] all = tt
 punched-known (c ∷ cs) all = let s = bare-stays c (all .0) in (rw (s .punched .same) (s .known), punched-known cs (all .1))
 
-punched-formed : (cs : List ℕ) → Bare cs → WellFormed (map rowOf cs)
+pub punched-formed : (cs : List ℕ) → Bare cs → WellFormed (map rowOf cs)
 punched-formed [] all = end
 punched-formed (c ∷ cs) all = let s = bare-stays c (all .0) in row {b = rowOf c} (rw (s .punched .same) (s .outside)) (punched-formed cs (all .1))
 

@@ -33,7 +33,7 @@ Bare cs = Every (λ c. T (bare c)) cs
 joined : (xs ys : List ℕ) → Bare xs → Bare ys → Bare (xs ++ ys)
 joined xs ys p q = every-append (λ c. T (bare c)) xs ys p q
 
-digits-bare : (ds : List ℕ) → Every Digit ds → Bare ds
+pub digits-bare : (ds : List ℕ) → Every Digit ds → Bare ds
 unfolding allFrom
 digits-bare ds all = every-map (λ c h. in-range bare 48 10 c tt (h .0) (omega arith)) ds all
 
