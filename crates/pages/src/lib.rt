@@ -126,6 +126,7 @@ pub fn list_page(tape: &[u8], format: Format, from: usize, buffer: &mut [u8]) ->
             Event::Finished => {
                 return Page::Lines(sheet);
             }
+            // No block of an accepted tape is refused.
             Event::Refused(r) => {
                 return Page::Refused(r);
             }
