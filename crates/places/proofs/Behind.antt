@@ -8,6 +8,7 @@ use native.Mathlib.Omega.{arith}
 use lib.IntN.{ℤ}
 use lib.ListN.{length}
 use Rattle.rows.specs.Passes.{Every}
+use Rattle.rows.proofs.Every.{every-append}
 use Rattle.shorthand.specs.declared.Kind.{Kind}
 use Rattle.shorthand.specs.declared.Item.{Item}
 use Rattle.shorthand.specs.declared.Format.{Format}
@@ -109,8 +110,4 @@ module _ {P : ℕ → Type 0} (digit : (c : ℕ) → Digit c → P c) (plus-sign
   pub every-data : {j : Kind} {v : Value} {d : List ℕ} → Data j v d → Every P d
   every-data (number {ds = ds} p) = every-digit ds (reads p .digit)
   every-data (speed {k = j} {v = v} c e) = every-digit (digits j c) (digits-digit j c (speed-small j c v e))
-  every-data (dimension {s = s} {ds = ds} g p) = joined s ds (every-sign g) (every-digit ds (reads p .digit))
-    where
-      joined : (xs ys : List ℕ) → Every P xs → Every P ys → Every P (xs ++ ys)
-      joined [] ys a b = b
-      joined (x ∷ xs) ys a b = (a .0, joined xs ys (a .1) b)
+  every-data (dimension {s = s} {ds = ds} g p) = every-append P s ds (every-sign g) (every-digit ds (reads p .digit))

@@ -49,7 +49,7 @@ module _ {f : Format} (facts : Facts f) (len : ℕ) (rs : List KeptRow) (n p : �
 
 -- of a tape under an edition and a shorthand
 module _ (e : ℕ) (s t : List ℕ) (n p : ℕ) where
-  refusal-read : RefusalOf e s t n p → readUnder e s t ≡ refused n p
+  pub refusal-read : RefusalOf e s t n p → readUnder e s t ≡ refused n p
   unfolding readUnder read
   refusal-read h =
       let q : parsed e s ≡ taken (h .format) = ap (parsed e) (h .spelt) ∙ shorthand.complete (h .lawful) in

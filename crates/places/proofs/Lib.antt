@@ -21,7 +21,6 @@ pub mod Told
 -- the theorems: of kept rows, of a tape's answer, of the tape itself
 pub mod RefusedRows
 pub mod RefusedTapes
-pub mod TapeParts
 pub mod TapePlaces
 -- no second number fits a refused row
 pub mod Marks

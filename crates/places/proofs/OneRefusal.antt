@@ -23,7 +23,7 @@ use Rattle.places.proofs.WordsStops.{last-behind}
 use Rattle.places.proofs.Ahead.{address-begins, before-begins}
 use Rattle.places.proofs.Addressed.{item-widths, item-letter, Same, same-letter, every-item, other-letter, digit-other}
 use Rattle.places.proofs.EndsAlone.{last-digit}
-use Rattle.places.proofs.TapePlaces.{every-front, every-back}
+use Rattle.rows.proofs.Every.{every-front, every-back}
 use Rattle.places.proofs.OneNumber.{spot, one-number}
 use Rattle.places.proofs.Compared.{Split, same, sooner, later, compare, nested, begins-front, behind-cr, inside-word, speed-miscount, cr-cr, cut-one}
 use Rattle.places.proofs.SpeedRuns.{Run, whole, few, many, out, not-next, run-stop, run-one, same-run}

@@ -15,7 +15,7 @@ use Rattle.rows.specs.ControlOut.{WellFormed, end, row}
 use Rattle.rows.specs.Passes.{Every, Passes}
 use Rattle.rows.specs.Row.{character, even, characters, among}
 use Rattle.rows.specs.Stages.{limit}
-use Rattle.rows.proofs.Every.{every-map, every-both, every-append}
+use Rattle.rows.proofs.Every.{every-map, every-both, every-append, every-front, every-back}
 use Rattle.rows.proofs.KeptRows.{kept-plain, kept-every}
 use Rattle.rows.proofs.TapesJoined.{formed-append, kept-append}
 use Rattle.shorthand.specs.declared.Kind.{Kind}
@@ -44,7 +44,7 @@ use Rattle.places.proofs.DigitLists.{zeros-digit}
 use Rattle.places.proofs.SpeedDigits.{Means, zeros-mean}
 use Rattle.places.proofs.Addressed.{item-widths}
 use Rattle.places.proofs.RefusedTapes.{tape-refused}
-use Rattle.places.proofs.TapeParts.{CutAt, cut-at}
+use Rattle.rows.proofs.TapeParts.{CutAt, cut-at}
 use Rattle.places.proofs.CutShort.{cut-none}
 
 -- ---- rows of a program are rows that the punch could write
@@ -59,14 +59,6 @@ blocks-bare facts (more {r = r} {s = s} b h) = every-append _ r s (block-bare fa
 
 program-bare : {f : Format} {bs : List Block} {x : List ℕ} → Facts f → Program f bs x → Bare x
 program-bare facts (program {e = e} {r = r} h k) = (tt, every-append _ e r (end-bare h) (blocks-bare facts k))
-
-pub every-front : {A : Type 0} (P : A → Type 0) (xs ys : List A) → Every P (xs ++ ys) → Every P xs
-every-front P [] ys all = tt
-every-front P (x ∷ xs) ys all = (all .0, every-front P xs ys (all .1))
-
-pub every-back : {A : Type 0} (P : A → Type 0) (xs ys : List A) → Every P (xs ++ ys) → Every P ys
-every-back P [] ys all = all
-every-back P (x ∷ xs) ys all = every-back P xs ys (all .1)
 
 -- a kept row of a tape that passes is one that the punch could write
 small : (t : List ℕ) → Every (λ b. T (ltb (character b) 128)) t

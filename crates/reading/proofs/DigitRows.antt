@@ -7,6 +7,7 @@ use native.Mathlib.Omega.{arith}
 use lib.ListN.{length, length-append, length-replicate}
 use lib.Dec.{lit<}
 use Rattle.rows.specs.Passes.{Every}
+use Rattle.rows.proofs.Every.{every-front, every-back}
 use Rattle.reading.specs.Relation.{digits, zeros}
 
 abbrev pub Digit : ℕ → Type 0
@@ -43,14 +44,6 @@ worth-append (x ∷ xs) ys a = worth-append xs ys (a * 10 + (x - 48))
 worth-zeros : (j a : ℕ) → worth a (zeros j) ≡ a * 10 ^ j
 worth-zeros zero a = rw (pow-zero, mul-one)
 worth-zeros (suc j) a = worth-zeros j (a * 10 + 0) ∙ rw (add-zero, mul-assoc, ← (pow-succ' 10 j))
-
-every-front : (P : ℕ → Type 0) (xs ys : List ℕ) → Every P (xs ++ ys) → Every P xs
-every-front P [] ys all = tt
-every-front P (x ∷ xs) ys all = (all .0, every-front P xs ys (all .1))
-
-every-back : (P : ℕ → Type 0) (xs ys : List ℕ) → Every P (xs ++ ys) → Every P ys
-every-back P [] ys all = all
-every-back P (x ∷ xs) ys all = every-back P xs ys (all .1)
 
 -- ---- digits with zeros missing
 

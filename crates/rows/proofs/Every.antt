@@ -22,3 +22,11 @@ module _ {A : Type 0} where
   pub every-append : (P : A → Type 0) (xs ys : List A) → Every P xs → Every P ys → Every P (xs ++ ys)
   every-append P [] ys p q = q
   every-append P (x ∷ xs) ys p q = (p .0, every-append P xs ys (p .1) q)
+
+  pub every-front : (P : A → Type 0) (xs ys : List A) → Every P (xs ++ ys) → Every P xs
+  every-front P [] ys q = tt
+  every-front P (x ∷ xs) ys q = (q .0, every-front P xs ys (q .1))
+
+  pub every-back : (P : A → Type 0) (xs ys : List A) → Every P (xs ++ ys) → Every P ys
+  every-back P [] ys q = q
+  every-back P (x ∷ xs) ys q = every-back P xs ys (q .1)

@@ -2,7 +2,7 @@
 use mathlib.Core.Path.{_≡_, refl, sym, ap, _∙_, subst}
 use mathlib.Core.Logic.{_⊎_, inl, inr, ⊎-elim}
 use mathlib.Core.Bool.{Bool, true, false, not, _||_, cond}
-use mathlib.Core.List.{List, [], _∷_, _++_}
+use mathlib.Core.List.{List, [], _∷_, _++_, map}
 use Prim.Native.Nat.{ℕ, zero, suc, _+_, _-_, _≤_, _<_, zero-le, suc-le-suc}
 use native.Mathlib.Nat.{add-zero, add-suc, suc-add}
 use native.Mathlib.Numerals.{add-one}
@@ -93,6 +93,17 @@ unfolding keptFrom
 past-remark empty c e t i = rw (e, add-suc, add-zero)
 past-remark (more {b = b} {r = r} h m) c e t i =
     rw (not-among (character b) 41 (58 ∷ 37 ∷ []) h .0, past-remark m c e t (suc i), add-suc i (suc (length r)), suc-add)
+
+-- the characters that are kept are the same, wherever the rows stand
+pub kept-chars : (u : List ℕ) (w : Bool) (i j : ℕ) → map (λ r. r .char) (keptFrom w i u) ≡ map (λ r. r .char) (keptFrom w j u)
+unfolding keptFrom
+kept-chars [] w i j = refl
+kept-chars (b ∷ u) w i j = by (stays w (character b)) _ _ (kept-chars u (within w (character b)) (suc i) (suc j))
+  where
+    by : (x : Bool) (k l : List KeptRow) → map (λ r. r .char) k ≡ map (λ r. r .char) l
+        → map (λ r. r .char) (cond x (record { place = i; char = character b } ∷ k) k) ≡ map (λ r. r .char) (cond x (record { place = j; char = character b } ∷ l) l)
+    by true k l e = rw e
+    by false k l e = e
 
 -- ---- which characters are kept
 

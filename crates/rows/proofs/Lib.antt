@@ -3,6 +3,9 @@ pub mod Walks
 pub mod Tabulated
 pub mod Lowest
 pub mod Every
+pub mod FirstRows
+pub mod LowestRows
+pub mod Faults
 pub mod Entry
 pub mod Parity
 pub mod Formed
@@ -13,3 +16,4 @@ pub mod StageOrder
 pub mod RowRefusals
 pub mod KeptRows
 pub mod TapesJoined
+pub mod TapeParts

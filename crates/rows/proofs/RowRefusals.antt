@@ -1,79 +1,97 @@
--- Every refusal of the first three stages: 4 at the limit, or 5, 6 or 7 at a row of the tape.
+-- The first three stages refuse by 4 to 7 exactly where the relation on rows says so.
 use Prim.Native.Nat.{ℕ, suc, _+_, _≤_, _<_}
+use native.Mathlib.Nat.{zero-add}
 use native.Mathlib.Omega.{arith}
-use mathlib.Core.Bool.{Bool, true, false, _||_, cond}
-use mathlib.Core.List.{List, [], _∷_}
-use lib.Dec.{eqb, ltb, lit≤}
-use lib.ListN.{length}
-use Rattle.rows.specs.Row.{character, entry}
-use Rattle.rows.specs.Stages.{limit, lowest, step, goOn, scan, refuseAt, judged}
+use mathlib.Core.Path.{_≡_, refl, sym, ap, _∙_}
+use mathlib.Core.Logic.{_↔_}
+use mathlib.Core.Bool.{Bool, true, false, cond}
+use mathlib.Core.List.{List, [], _∷_, _++_}
+use lib.Dec.{T, eqb, ltb}
+use lib.ListN.{length, getD, length-append}
+use borrow.Author.Tests.{lt-ltb, le-ltb, ltb-true, ltb-false}
+use Rattle.rows.specs.Row.{character, even, characters, among, entry}
+use Rattle.rows.specs.Stages.{limit, barred, scan, refuseAt, judged}
+use Rattle.rows.specs.Answer.{Answer, taken, refused, _>>_}
+use Rattle.rows.specs.Faults.{Fault, stray, unclosed, inside, behind-row, behind-remark, Odd, Foreign, Lowest, None, RowRefusal, long, odd, foreign, fault}
 use Rattle.rows.specs.declared.Found.{Found}
 use Rattle.rows.specs.declared.Found.the-variants.{Nowhere, At}
-use Rattle.rows.specs.declared.Side.{Side}
-use Rattle.rows.specs.declared.Side.the-variants.{Outside, Inside, Spoilt}
-use Rattle.rows.specs.declared.Step.{Step}
-use Rattle.rows.specs.declared.Step.the-variants.{On, Fault}
-use Rattle.rows.proofs.Outcomes.{Holds, refusal, value, holds-then, holds-cond}
+use Rattle.rows.specs.declared.Side.the-variants.{Outside}
+use Rattle.rows.proofs.Outcomes.{Holds, refusal, value, of-refused}
+use Rattle.rows.proofs.Entry.{even-entry, known-entry}
+use Rattle.rows.proofs.LowestRows.{Finds, nothing, lowest-one, finds-none, finds-lowest, finds-same, test-finds}
+use Rattle.rows.proofs.Faults.{scan-finds}
 
--- below n, if anywhere
-data Below (n : ℕ) : Found → Type 0 where
-  nowhere : Below n Nowhere
-  at : {p : ℕ} → p < n → Below n (At p)
+-- a test whose failing is something true takes a row exactly where that is not so
+module _ (x y : Bool) (is : (x ≡ false) ↔ T y) where
+  taken-not : x ≡ true → y ≡ false
+  taken-not e = by y refl
+    where
+      by : (b : Bool) → y ≡ b → b ≡ false
+      by true q = let f = is .1 (rw q tt) in let z : _≡_ {A = ℕ} 0 1 = cc in absurd (omega arith)
+      by false q = refl
 
-below-cond : {n : ℕ} {x y : Found} (b : Bool) → Below n x → Below n y → Below n (cond b x y)
-below-cond true h k = h
-below-cond false h k = k
+  not-taken : y ≡ false → x ≡ true
+  not-taken e = by x refl
+    where
+      by : (b : Bool) → x ≡ b → b ≡ true
+      by true q = refl
+      by false q = absurd (rw e at (is .0 q))
 
-lowest-below : (f : ℕ → Bool) (i n : ℕ) (t : List ℕ) → i + length t ≤ n → Below n (lowest f i t)
-unfolding lowest
-lowest-below f i n [] h = nowhere
-lowest-below f i n (b ∷ t) h = below-cond (f b) (at (omega arith)) (lowest-below f (suc i) n t (omega arith))
+module _ (t : List ℕ) where
+  odd-finds : Finds (Odd t) 0 (barred 5 0 t)
+  odd-finds =
+      finds-same (λ p h. (h .0, taken-not _ _ (even-entry (getD t p 0)) (h .1))) (λ p h. (h .0, not-taken _ _ (even-entry (getD t p 0)) (h .1)))
+      (test-finds (λ b. eqb (entry b) 133) t 0)
 
--- what a side remembers stood before row i
-data Behind (i : ℕ) : Side → Type 0 where
-  out : Behind i Outside
-  opened : {o : ℕ} → o < i → Behind i (Inside o)
-  spoiled : {o p : ℕ} → o < i → p < i → Behind i (Spoilt o p)
+  all-even : None (Odd t) → (p : ℕ) → p < length t → T (even (getD t p 0))
+  all-even n p h = by (even (getD t p 0)) refl
+    where
+      by : (b : Bool) → even (getD t p 0) ≡ b → T b
+      by true q = tt
+      by false q = n p (h, q)
 
--- where a row leads
-data Leads (i : ℕ) : Step → Type 0 where
-  on : {m : Side} → Behind i m → Leads i (On m)
-  fault : {p : ℕ} → p < i → Leads i (Fault p)
+  foreign-finds : None (Odd t) → Finds (Foreign t) 0 (barred 6 0 t)
+  foreign-finds n =
+      finds-same (λ p h. (h .0, taken-not _ _ (known-entry (getD t p 0) (all-even n p (h .0))) (h .1)))
+      (λ p h. (h .0, not-taken _ _ (known-entry (getD t p 0) (all-even n p (h .0))) (h .1))) (test-finds (λ b. eqb (entry b) 134) t 0)
 
-leads-cond : {i : ℕ} {x y : Step} (b : Bool) → Leads i x → Leads i y → Leads i (cond b x y)
-leads-cond true h k = h
-leads-cond false h k = k
+  -- 7 and nothing else is left
+  third : length t ≤ limit → None (Odd t) → None (Foreign t) → {x : Found} → Finds (Fault t) 0 x → Holds (RowRefusal t) (λ u. Unit {0}) (refuseAt 7 x)
+  third l o f (nothing n) = value tt
+  third l o f (lowest-one p k) = rw zero-add (refusal (fault l o f k))
 
-step-leads : (m : Side) (i c : ℕ) → Behind i m → Leads (suc i) (step m i c)
-step-leads Outside i c h = leads-cond (eqb c 40) (on (opened (omega arith))) (leads-cond (eqb c 41) (fault (omega arith)) (on out))
-step-leads (Inside o) i c (opened h) =
-    leads-cond (eqb c 41) (on out) (leads-cond (eqb c 58 || eqb c 37) (on (spoiled (omega arith) (omega arith))) (on (opened (omega arith))))
-step-leads (Spoilt o p) i c (spoiled h k) = leads-cond (eqb c 41) (fault (omega arith)) (on (spoiled (omega arith) (omega arith)))
+  second : length t ≤ limit → None (Odd t) → {x : Found} → Finds (Foreign t) 0 x → Holds (RowRefusal t) (λ u. Unit {0}) (refuseAt 6 x >> refuseAt 7 (scan Outside 0 t))
+  second l o (nothing n) = third l o n (scan-finds t)
+  second l o (lowest-one p k) = rw zero-add (refusal (foreign l o k))
 
-go-below : {i n : ℕ} {s : Step} {rest : Side → Found} → Leads i s → i ≤ n → ((m : Side) → Behind i m → Below n (rest m)) → Below n (goOn s rest)
-go-below (on {m = m} h) l f = f m h
-go-below (fault {p = p} h) l f = at {p = p} (omega arith)
+  first : length t ≤ limit → {x : Found} → Finds (Odd t) 0 x → Holds (RowRefusal t) (λ u. Unit {0}) (refuseAt 5 x >> refuseAt 6 (barred 6 0 t) >> refuseAt 7 (scan Outside 0 t))
+  first l (nothing n) = second l n (foreign-finds n)
+  first l (lowest-one p k) = rw zero-add (refusal (odd l k))
 
-scan-below : (m : Side) (i n : ℕ) (t : List ℕ) → Behind i m → i + length t ≤ n → Below n (scan m i t)
-unfolding scan
-scan-below Outside i n [] h l = nowhere
-scan-below (Inside o) i n [] (opened h) l = at {p = o} (omega arith)
-scan-below (Spoilt o p) i n [] (spoiled h k) l = at {p = o} (omega arith)
-scan-below m i n (b ∷ t) h l = go-below (step-leads m i (character b) h) (omega arith) (λ k q. scan-below k (suc i) n t q (omega arith))
+  pub row-refusals : Holds (RowRefusal t) (λ u. Unit {0}) (judged t)
+  unfolding judged
+  row-refusals = by (ltb limit (length t)) refl
+    where
+      by : (b : Bool) → ltb limit (length t) ≡ b
+          → Holds (RowRefusal t) (λ u. Unit {0}) (_>>_ {A = Unit {0}} (cond b (refused 4 limit) (taken tt)) (refuseAt 5 (barred 5 0 t) >> refuseAt 6 (barred 6 0 t) >> refuseAt 7 (scan Outside 0 t)))
+      by true q = refusal (long (ltb-true limit (length t) q))
+      by false q = first (ltb-false limit (length t) q) odd-finds
 
--- 4 at the limit, or 5, 6 or 7 at a row of the tape
-pub data RowTable (t : List ℕ) : ℕ → ℕ → Type 0 where
-  too-long : RowTable t 4 limit
-  at-row : {n p : ℕ} → 5 ≤ n → n ≤ 7 → p < length t → RowTable t n p
+  refusal-judged : {n p : ℕ} → RowRefusal t n p → judged t ≡ refused n p
+  unfolding judged
+  refusal-judged (long l) = rw (lt-ltb limit (length t) l)
+  refusal-judged (odd l k) = rw (le-ltb limit (length t) l, finds-lowest odd-finds k)
+  refusal-judged (foreign l o k) = rw (le-ltb limit (length t) l, finds-none odd-finds o, finds-lowest (foreign-finds o) k)
+  refusal-judged (fault l o f k) = rw (le-ltb limit (length t) l, finds-none odd-finds o, finds-none (foreign-finds o) f, finds-lowest (scan-finds t) k)
 
-stage-holds : (t : List ℕ) (n : ℕ) → 5 ≤ n → n ≤ 7 → {x : Found} → Below (length t) x → Holds (RowTable t) (λ u. Unit {0}) (refuseAt n x)
-stage-holds t n l h nowhere = value tt
-stage-holds t n l h (at q) = refusal (at-row l h q)
+  -- refused by that number at that place where, and only where, the table calls for it
+  pub refused-exactly : (n p : ℕ) → (judged t ≡ refused n p) ↔ RowRefusal t n p
+  refused-exactly n p = (λ e. of-refused row-refusals e, refusal-judged)
 
-pub row-refusals : (t : List ℕ) → Holds (RowTable t) (λ u. Unit {0}) (judged t)
-unfolding judged
-row-refusals t =
-    holds-then (holds-cond (ltb limit (length t)) (λ q. refusal too-long) (λ q. value tt))
-    (holds-then (stage-holds t 5 (lit≤ tt) (lit≤ tt) (lowest-below (λ b. eqb (entry b) 133) 0 (length t) t (omega arith)))
-    (holds-then (stage-holds t 6 (lit≤ tt) (lit≤ tt) (lowest-below (λ b. eqb (entry b) 134) 0 (length t) t (omega arith)))
-    (stage-holds t 7 (lit≤ tt) (lit≤ tt) (scan-below Outside 0 (length t) t out (omega arith)))))
+-- a row at fault is a row of the tape
+pub fault-row : {t : List ℕ} {p : ℕ} → Fault t p → p < length t
+fault-row (stray k) = omega arith
+fault-row (unclosed k n) = omega arith
+fault-row (inside r b s c t k m q n f) = omega (arith, length-append r (b ∷ (s ++ (c ∷ t))))
+fault-row (behind-row k f) = let l = fault-row f in omega (arith, l)
+fault-row (behind-remark r c {t = t} k m n f) = let l = fault-row f in omega (arith, l, length-append r (c ∷ t))

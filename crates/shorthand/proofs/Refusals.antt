@@ -19,7 +19,7 @@ two-or-three short = inr refl
 two-or-three unfit = inl refl
 
 -- the table's row, and whether the edition is known
-abbrev Row : ℕ → List ℕ → ℕ → ℕ → Type 0
+abbrev pub Row : ℕ → List ℕ → ℕ → ℕ → Type 0
 Row e t n p = ((n ≡ 1) × (p ≡ 0) × T (not (known e))) ⊎ (((n ≡ 2) ⊎ (n ≡ 3)) × (p ≤ length t) × T (known e))
 
 row-of : {e : ℕ} {t : List ℕ} {n p : ℕ} → Ground e t (refused n p) → Row e t n p
@@ -32,7 +32,7 @@ row-of (item-lacks {x = x} b t h r) = inr (inl refl, omega (arith, length-append
 row-of (item-bars {dots = dots} {last = last} {x = x} b t h s q r) = inr (two-or-three (stand form dots last (b ∷ t)), omega (arith, length-append x (b ∷ t)), h .edition)
 
 module _ (e : ℕ) (t : List ℕ) (n p : ℕ) (answer : parsed e t ≡ refused n p) where
-  row : Row e t n p
+  pub row : Row e t n p
   row = row-of (subst (Ground e t) answer (grounds e t))
 
   pub refusals : ((n ≡ 1) × (p ≡ 0)) ⊎ (((n ≡ 2) ⊎ (n ≡ 3)) × (p ≤ length t))
