@@ -1,106 +1,117 @@
 -- Demand 1: everything gets an answer, and what can't be taken is refused by a number and a place of the table.
-use Prim.Native.Nat.{ℕ, suc, _≤_, _<_}
+use Prim.Native.Nat.{ℕ, zero, suc, _^_, _≤_, _<_}
+use native.Mathlib.Decide.{decLt}
 use native.Mathlib.Omega.{arith}
 use mathlib.Core.Path.{_≡_, refl}
-use mathlib.Core.Logic.{_⊎_, inl, inr, ⊎-elim}
-use mathlib.Core.Bool.{Bool, true, false, _||_}
-use mathlib.Core.List.{List, [], _∷_, List·Memᴰ·head, List·Memᴰ·tail}
+use mathlib.Core.Logic.{_⊎_, inl, inr, ⊎-elim, _↔_}
+use mathlib.Core.Bool.{Bool, true, false, _||_, not}
+use mathlib.Core.List.{List, [], _∷_, _++_}
 use lib.Dec.{T, eqb, eqb→eq, leb, ltb}
-use lib.ListN.{length}
+use lib.ListN.{length, take}
 use borrow.Author.Tests.{leb-false, ltb-false}
-use Rattle.rows.specs.Answer.{Answer, taken, refused, _>>=_, valueOr}
-use Rattle.rows.specs.Kept.{KeptRow, kept}
-use Rattle.rows.specs.Stages.{limit, judged}
-use Rattle.rows.proofs.Outcomes.{Holds, refusal, value, holds-map, holds-bind, holds-then, holds-cond, wider}
-use Rattle.rows.proofs.RowRefusals.{RowTable, row-refusals}
+use Rattle.rows.specs.Answer.{Answer, taken, refused, _>>=_, _>>_, valueOr}
+use Rattle.rows.specs.Kept.{kept}
+use Rattle.rows.specs.Stages.{judged}
+use Rattle.rows.specs.Faults.{RowRefusal}
+use Rattle.rows.proofs.Outcomes.{Holds, refusal, value, holds-map, holds-bind, holds-cond, of-refused}
+use Rattle.rows.proofs.Judged.{clean-passes}
+use Rattle.rows.proofs.RowRefusals.{row-refusals, refused-exactly}
 use Rattle.speeds.specs.Meaning.{speedFor}
 use Rattle.speeds.specs.Coding.{codeFor}
 use Rattle.speeds.proofs.Answers.{speed-answers, code-answers}
 use Rattle.shorthand.specs.declared.Format.{Format}
-use Rattle.shorthand.specs.Facts.{Facts}
+use Rattle.shorthand.specs.Edition.{form, known}
+use Rattle.shorthand.specs.Mending.{Mends}
+use Rattle.shorthand.specs.Lawful.{Lawful}
+use Rattle.shorthand.specs.Spell.{spell}
 use Rattle.shorthand.specs.Parse.{parsed}
-use Rattle.shorthand.proofs.Fairness.{accepted-facts}
+use Rattle.shorthand.proofs.Accepted.{sound, accepted}
+use Rattle.shorthand.proofs.Fairness.{lawful-facts}
+use Rattle.shorthand.proofs.Starred.{starred}
 use Rattle.shorthand.proofs.Refusals as spelling
+use Rattle.shorthand.proofs.Mended as mended
 use Rattle.reading.specs.declared.Block.{Block}
-use Rattle.reading.specs.Record.{emptyBlock}
 use Rattle.reading.specs.Parse.{Entry}
-use Rattle.reading.specs.Front.{Rising, over, rise}
-use Rattle.reading.specs.Answers.{nowhere, nth, programAt, read, readUnder, entryNumbered, counted, blockNumbered, rowsNumbered}
-use Rattle.reading.proofs.Places.{kept-rising}
-use Rattle.reading.proofs.Refusals.{AtRow, Listed, refusals}
+use Rattle.reading.specs.Answers.{nth, programAt, read, readUnder, entryNumbered, counted, blockNumbered, rowsNumbered}
 use Rattle.punching.specs.Answers.{headPunched, blockFor, blockPunched, after}
 use Rattle.punching.proofs.Records.{Fault, WordRefusal}
 use Rattle.punching.proofs.Refusals.{Barred, refused-only}
-
--- the refusal table, for the shorthand s and the tape t: each number with its places
-pub data Reading (s t : List ℕ) : ℕ → ℕ → Type 0 where
-  edition : Reading s t 1 0
-  spelt : {n p : ℕ} → 2 ≤ n → n ≤ 3 → p ≤ length s → Reading s t n p
-  too-long : Reading s t 4 limit
-  row : {n p : ℕ} → 5 ≤ n → n ≤ 13 → p < length t → Reading s t n p
-  no-head : Reading s t 8 (length t)
-  cut : Reading s t 14 (length t)
+use Rattle.places.specs.Faults.{RefusalOf}
+use Rattle.places.proofs.RefusedRows.{refused-rows}
+use Rattle.places.proofs.Exactly.{refusal-read}
+use Rattle.demands.specs.Tables.{Spelt, InOrder, Spelling, edition, out-of-form, beyond, lacking, TapeRefusal, rows, program, Reading, Fetching, unread, past, Punching, Heading, Speaking, Coding}
 
 -- an answer, whatever was handed over: something taken, or a refusal of the table
 abbrev pub Answered : {A : Type 0} → (ℕ → ℕ → Type 0) → Answer A → Type 0
 Answered table a = Holds table (λ x. Unit {0}) a
 
-module _ (s t : List ℕ) where
-  of-shorthand : {n p : ℕ} → ((n ≡ 1) × (p ≡ 0)) ⊎ (((n ≡ 2) ⊎ (n ≡ 3)) × (p ≤ length s)) → Reading s t n p
-  of-shorthand (inl h) = rw (h .0, h .1) edition
-  of-shorthand (inr h) = ⊎-elim (λ q. spelt (omega arith) (omega arith) (h .1)) (λ q. spelt (omega arith) (omega arith) (h .1)) (h .0)
+-- ---- the shorthand
 
-  of-rows : {n p : ℕ} → RowTable t n p → Reading s t n p
-  of-rows RowTable.too-long = too-long
-  of-rows (RowTable.at-row l h q) = row l (omega arith) q
+-- what is taken spells a Format
+spelt-by : (e : ℕ) (s : List ℕ) (f : Format) → parsed e s ≡ taken f → Spelt e s
+spelt-by e s f q = let h = sound e s f q in record { format = f; lawful = h .1; text = h .0 }
 
-  -- a kept row is a row of the tape
-  row-within : {i p : ℕ} {rs : List KeptRow} → Rising (length t) i rs → AtRow rs p → p < length t
-  row-within (rise l h k) (List·Memᴰ·head q) = rw q h
-  row-within (rise l h k) (List·Memᴰ·tail m) = row-within k m
-
-  of-program : {n p : ℕ} → Listed (length t) (kept t) n p → Reading s t n p
-  of-program (Listed.at-row {n = n} l h a) = row {n = n} (omega arith) h (row-within (kept-rising false 0 t (omega arith)) a)
-  of-program Listed.no-head = no-head
-  of-program Listed.cut = cut
-
-  program-answered : (f : Format) → Facts f → Answered (Reading s t) (programAt (length t) f (kept t))
-  program-answered f facts = by (programAt (length t) f (kept t)) refl
+module _ (e : ℕ) (s : List ℕ) (n p : ℕ) (answer : parsed e s ≡ refused n p) where
+  in-order : p < length s → InOrder e s p
+  in-order l = elim (decLt 0 p) [ no z ↦ inl (omega (arith, z)) | yes some ↦ inr (by some (starred s p) refl) ]
     where
-      by : (a : Answer (List Entry)) → programAt (length t) f (kept t) ≡ a → Answered (Reading s t) a
-      by (taken es) q = value tt
-      by (refused n p) q = refusal (of-program (refusals f facts (length t) (kept t) n p q))
+      by : 0 < p → (x : Bool) → starred s p ≡ x → Spelt e (take p s ++ (42 ∷ [])) ⊎ Spelt e (take p s)
+      by some true q = let g = mended.in-order-starred e s n p answer l (rw q tt) in inr (spelt-by e _ (g .0) (g .1))
+      by some false q = let g = mended.in-order e s n p answer some l (rw q tt) in inl (spelt-by e _ (g .0) (g .1))
 
-  tape-answered : (f : Format) → Facts f → Answered (Reading s t) (read f t)
-  unfolding read
-  tape-answered f facts = holds-then (wider (λ n p h. of-rows h) (row-refusals t)) (program-answered f facts)
+  numbered : T (known e) → (n ≡ 2) ⊎ (n ≡ 3) → p ≤ length s → Spelling e s n p
+  numbered k (inl two) h =
+      elim (decLt p (length s)) [
+        | yes l ↦ rw two (out-of-form k l (in-order l) (mended.out-of-form e s n p answer two l))
+        | no l ↦ (let at : p ≡ length s = omega (arith, l, h) in let g = mended.lacking e s n p answer k at in rw (two, at) (lacking k (g .0) (spelt-by e _ (g .1) (g .2))))
+      ]
+  numbered k (inr three) h =
+      let l = mended.before-end e s n p answer three in
+      rw three (beyond k l (in-order l) (mended.unmended e s n p answer l) (mended.in-form e s n p answer three))
 
--- the same, and 15 at the number of blocks for block n and those after it
-pub data Fetching (e : ℕ) (s t : List ℕ) (n : ℕ) : ℕ → ℕ → Type 0 where
-  unread : {m p : ℕ} → Reading s t m p → Fetching e s t n m p
-  past : {c : ℕ} → counted e s t ≡ taken c → c ≤ n → Fetching e s t n 15 c
+  misspelt : Spelling e s n p
+  misspelt = ⊎-elim (λ r. rw (r .0, r .1) (edition (r .2))) (λ r. numbered (r .2) (r .0) (r .1)) (spelling.row e s n p answer)
 
--- the table of punching a record b into a buffer
-pub data Punching (s : List ℕ) (b : Block) (buffer : List ℕ) : ℕ → ℕ → Type 0 where
-  edition : Punching s b buffer 1 0
-  spelt : {n p : ℕ} → 2 ≤ n → n ≤ 3 → p ≤ length s → Punching s b buffer n p
-  crowded : 22 < b .count → Punching s b buffer 16 23
-  unnumbered : Punching s b buffer 17 0
-  word : {n p : ℕ} → 16 ≤ n → n ≤ 18 → 1 ≤ p → p ≤ b .count → Punching s b buffer n p
-  full : {p : ℕ} → length buffer < p → Punching s b buffer 19 p
+parsed-answered : (e : ℕ) (s : List ℕ) → Holds (Spelling e s) (λ f. parsed e s ≡ taken f) (parsed e s)
+parsed-answered e s = by (parsed e s) refl
+  where
+    by : (a : Answer Format) → parsed e s ≡ a → Holds (Spelling e s) (λ f. parsed e s ≡ taken f) a
+    by (taken f) q = value q
+    by (refused n p) q = refusal (misspelt e s n p q)
 
--- the table of the head
-pub data Heading (buffer : List ℕ) : ℕ → ℕ → Type 0 where
-  full : length buffer < 2 → Heading buffer 19 2
+-- ---- a tape
 
--- the tables of coded speeds
-pub data Speaking : ℕ → ℕ → Type 0 where
-  second-zero : Speaking 13 0
-  digits : Speaking 21 0
+module _ (e : ℕ) (s t : List ℕ) where
+  under-answered : Answered (Reading e s t) (readUnder e s t)
+  unfolding readUnder read
+  under-answered = by (parsed-answered e s)
+    where
+      fourth : (f : Format) → parsed e s ≡ taken f → judged t ≡ taken tt → (a : Answer (List Entry)) → programAt (length t) f (kept t) ≡ a → Answered (Reading e s t) a
+      fourth f q c (taken es) r = value tt
+      fourth f q c (refused n p) r =
+          let h = sound e s f q in
+          refusal (Reading.tape (program (record { format = f; lawful = h .1; spelt = h .0; passes = clean-passes t c; says = refused-rows f (lawful-facts (h .1)) (length t) (kept t) n p r })))
 
-pub data Coding : ℕ → ℕ → Type 0 where
-  beyond : Coding 20 0
-  digits : Coding 21 0
+      stages : (f : Format) → parsed e s ≡ taken f → (j : Answer (Unit {0})) → judged t ≡ j → Holds (RowRefusal t) (λ u. Unit {0}) j → Answered (Reading e s t) (j >> programAt (length t) f (kept t))
+      stages f q (taken u) c h = fourth f q c _ refl
+      stages f q (refused n p) c (refusal h) = refusal (Reading.tape (rows (spelt-by e s f q) h))
+
+      read-answered : (f : Format) → parsed e s ≡ taken f → Answered (Reading e s t) (read f t)
+      read-answered f q = stages f q (judged t) refl (row-refusals t)
+
+      by : {a : Answer Format} → Holds (Spelling e s) (λ f. parsed e s ≡ taken f) a → Answered (Reading e s t) (a >>= λ f. read f t)
+      by (refusal h) = refusal (Reading.shorthand h)
+      by (value {a = f} q) = read-answered f q
+
+  entry-answered : (n : ℕ) → Answered (Fetching e s t n) (entryNumbered e s t n)
+  entry-answered n = by (readUnder e s t) refl under-answered
+    where
+      by : (a : Answer (List Entry)) → readUnder e s t ≡ a → Answered (Reading e s t) a → Answered (Fetching e s t n) (a >>= nth n)
+      by (taken es) q h =
+          holds-cond (ltb n (length es)) (λ l. value tt) (λ l. refusal (past (rw q) (ltb-false n (length es) l)))
+      by (refused m p) q (refusal h) = refusal (unread h)
+
+-- ---- a record
 
 word-numbers : (n : ℕ) → WordRefusal n → (16 ≤ n) × (n ≤ 18)
 word-numbers n h = by (eqb n 16) (eqb n 17) (eqb n 18) (eqb→eq n 16) (eqb→eq n 17) (eqb→eq n 18) h
@@ -111,74 +122,70 @@ word-numbers n h = by (eqb n 16) (eqb n 17) (eqb n 18) (eqb→eq n 16) (eqb→eq
     by false false true p q r h = let e = r tt in (omega arith, omega arith)
     by false false false p q r h = absurd h
 
-of-spelling : {s : List ℕ} {b : Block} {buffer : List ℕ} {n p : ℕ} → ((n ≡ 1) × (p ≡ 0)) ⊎ (((n ≡ 2) ⊎ (n ≡ 3)) × (p ≤ length s)) → Punching s b buffer n p
-of-spelling (inl h) = rw (h .0, h .1) Punching.edition
-of-spelling (inr h) = ⊎-elim (λ q. Punching.spelt (omega arith) (omega arith) (h .1)) (λ q. Punching.spelt (omega arith) (omega arith) (h .1)) (h .0)
+of-barred : {e : ℕ} {f : Format} {s : List ℕ} (b : Block) (buffer : List ℕ) → Lawful e f → s ≡ spell f → {n p : ℕ} → Barred f b buffer n p → Punching e s b buffer n p
+of-barred b buffer l q (inl (Fault.crowded h)) = Punching.crowded h
+of-barred b buffer l q (inl (Fault.unnumbered c h)) = Punching.unnumbered l q h
+of-barred b buffer l q (inl (Fault.at-word {n = n} c w i h)) = let k = word-numbers n w in Punching.word (k .0) (k .1) i h
+of-barred b buffer l q (inr h) = rw (h .0, h .1) (Punching.full l q (rw (h .1) at (h .2)))
 
-of-barred : (f : Format) (s : List ℕ) (b : Block) (buffer : List ℕ) {n p : ℕ} → Barred f b buffer n p → Punching s b buffer n p
-of-barred f s b buffer (inl (Fault.crowded h)) = crowded h
-of-barred f s b buffer (inl (Fault.unnumbered c h)) = unnumbered
-of-barred f s b buffer (inl (Fault.at-word {n = n} c w l h)) = let k = word-numbers n w in word (k .0) (k .1) l h
-of-barred f s b buffer (inr h) = rw (h .0) (full (h .2))
+-- "Every tape image, shorthand and block record gets an answer, and the work ends. What can't be taken is refused by a number
+-- and a place." The functions are total; here, of the answer of each:
+
+pub tape-checked : (t : List ℕ) → Answered (RowRefusal t) (judged t)
+tape-checked t = row-refusals t
 
 module _ (e : ℕ) (s : List ℕ) where
-  parsed-answered : {t : List ℕ} → Holds (Reading s t) Facts (parsed e s)
-  parsed-answered {t} = by (parsed e s) refl
-    where
-      by : (a : Answer Format) → parsed e s ≡ a → Holds (Reading s t) Facts a
-      by (taken f) q = value (accepted-facts e s f q)
-      by (refused n p) q = refusal (of-shorthand s t (spelling.refusals e s n p q))
+  pub shorthand-answered : Answered (Spelling e s) (parsed e s)
+  shorthand-answered = holds-map (λ f h. tt) (parsed-answered e s)
 
-  under-answered : (t : List ℕ) → Answered (Reading s t) (readUnder e s t)
-  unfolding readUnder
-  under-answered t = holds-bind parsed-answered (λ f facts. tape-answered s t f facts)
-
-  entry-answered : (t : List ℕ) (n : ℕ) → Answered (Fetching e s t n) (entryNumbered e s t n)
-  entry-answered t n = by (readUnder e s t) refl (under-answered t)
-    where
-      by : (a : Answer (List Entry)) → readUnder e s t ≡ a → Answered (Reading s t) a → Answered (Fetching e s t n) (a >>= nth n)
-      by (taken es) q h =
-          holds-cond (ltb n (length es)) (λ l. value tt) (λ l. refusal (past (rw q) (ltb-false n (length es) l)))
-      by (refused m p) q (refusal h) = refusal (unread h)
-
-  -- "Every tape image, shorthand and block record gets an answer, and the work ends. What can't be taken is refused by a number
-  -- and a place." The functions are total; here, of the answer of each:
-
-  pub shorthand-answered : (t : List ℕ) → Answered (Reading s t) (parsed e s)
-  shorthand-answered t = holds-map (λ f h. tt) parsed-answered
-
-  pub tape-checked : (t : List ℕ) → Answered (Reading s t) (judged t)
-  tape-checked t = wider (λ n p h. of-rows s t h) (row-refusals t)
-
-  pub count-answered : (t : List ℕ) → Answered (Reading s t) (counted e s t)
-  count-answered t = holds-bind (under-answered t) (λ es h. value tt)
+  pub count-answered : (t : List ℕ) → Answered (Reading e s t) (counted e s t)
+  count-answered t = holds-bind (under-answered e s t) (λ es h. value tt)
 
   pub block-answered : (t : List ℕ) (n : ℕ) → Answered (Fetching e s t n) (blockNumbered e s t n)
-  block-answered t n = holds-bind (entry-answered t n) (λ x h. value tt)
+  block-answered t n = holds-bind (entry-answered e s t n) (λ x h. value tt)
 
   pub rows-answered : (t : List ℕ) (n : ℕ) → Answered (Fetching e s t n) (rowsNumbered e s t n)
-  rows-answered t n = holds-bind (entry-answered t n) (λ x h. value tt)
+  rows-answered t n = holds-bind (entry-answered e s t n) (λ x h. value tt)
 
-  pub punching-answered : (b : Block) (buffer : List ℕ) → Answered (Punching s b buffer) (blockPunched e s b buffer)
+  pub punching-answered : (b : Block) (buffer : List ℕ) → Answered (Punching e s b buffer) (blockPunched e s b buffer)
   unfolding blockPunched
-  punching-answered b buffer = by (parsed e s) refl
+  punching-answered b buffer = by (parsed-answered e s)
     where
-      under : (f : Format) (a : Answer (List ℕ)) → blockFor f b buffer ≡ a → Answered (Punching s b buffer) a
-      under f (taken r) q = value tt
-      under f (refused n p) q = refusal (of-barred f s b buffer (refused-only f b buffer n p q))
+      under : (f : Format) → parsed e s ≡ taken f → (a : Answer (List ℕ)) → blockFor f b buffer ≡ a → Answered (Punching e s b buffer) a
+      under f q (taken r) w = value tt
+      under f q (refused n p) w = let h = sound e s f q in refusal (of-barred b buffer (h .1) (h .0) (refused-only f b buffer n p w))
 
-      by : (a : Answer Format) → parsed e s ≡ a → Answered (Punching s b buffer) (a >>= λ f. blockFor f b buffer)
-      by (taken f) q = under f (blockFor f b buffer) refl
-      by (refused n p) q = refusal (of-spelling (spelling.refusals e s n p q))
+      by : {a : Answer Format} → Holds (Spelling e s) (λ f. parsed e s ≡ taken f) a → Answered (Punching e s b buffer) (a >>= λ f. blockFor f b buffer)
+      by (refusal h) = refusal (Punching.shorthand h)
+      by (value {a = f} q) = under f q (blockFor f b buffer) refl
 
 pub head-answered : (buffer : List ℕ) → Answered (Heading buffer) (headPunched buffer)
-head-answered buffer = holds-cond (leb 2 (length buffer)) (λ l. value tt) (λ l. refusal (full (leb-false 2 (length buffer) l)))
+head-answered buffer = holds-cond (leb 2 (length buffer)) (λ l. value tt) (λ l. refusal (Heading.full (leb-false 2 (length buffer) l)))
 
 pub speed-answered : (k c : ℕ) → Answered Speaking (speedFor k c)
-speed-answered k c = ⊎-elim (λ v. rw (v .1) (value tt)) (⊎-elim (λ q. rw q (refusal digits)) (λ q. rw q (refusal second-zero))) (speed-answers k c)
+speed-answered k c = ⊎-elim (λ v. rw (v .1) (value tt)) (⊎-elim (λ q. rw q (refusal Speaking.digits)) (λ q. rw q (refusal Speaking.second-zero))) (speed-answers k c)
 
 pub code-answered : (k v : ℕ) → Answered Coding (codeFor k v)
-code-answered k v = ⊎-elim (λ c. rw (c .1) (value tt)) (⊎-elim (λ q. rw q (refusal digits)) (λ q. rw q (refusal beyond))) (code-answers k v)
+code-answered k v = ⊎-elim (λ c. rw (c .1) (value tt)) (⊎-elim (λ q. rw q (refusal Coding.digits)) (λ q. rw q (refusal Coding.beyond))) (code-answers k v)
+
+-- of a tape, exactly: under a shorthand that is in order the table's refusal is the answer, and no other is
+spelling-low : {e : ℕ} {s : List ℕ} {n p : ℕ} → Spelling e s n p → n ≤ 3
+spelling-low (edition k) = omega arith
+spelling-low (out-of-form k i o m) = omega arith
+spelling-low (beyond k i o m g) = omega arith
+spelling-low (lacking k u h) = omega arith
+
+of-tape : {e : ℕ} {s t : List ℕ} {n p : ℕ} → 4 ≤ n → Reading e s t n p → TapeRefusal e s t n p
+of-tape l (Reading.shorthand h) = absurd (omega (arith, l, spelling-low h))
+of-tape l (Reading.tape h) = h
+
+tape-refused : {e : ℕ} {s t : List ℕ} {n p : ℕ} → TapeRefusal e s t n p → counted e s t ≡ refused n p
+unfolding readUnder read
+tape-refused {e} {s} {t} {n} {p} (rows h r) = let q = accepted e s (h .format) .1 (h .text, h .lawful) in rw (q, refused-exactly t n p .1 r)
+tape-refused {e} {s} {t} {n} {p} (program r) = rw (refusal-read e s t n p r)
+
+pub tape-exactly : (e : ℕ) (s t : List ℕ) (n p : ℕ) → 4 ≤ n → (counted e s t ≡ refused n p) ↔ TapeRefusal e s t n p
+tape-exactly e s t n p l = (λ q. of-tape l (of-refused (count-answered e s t) q), tape-refused)
 
 -- "a refused punching leaves the buffer untouched": what a refusal leaves of each thing that is handed back
 

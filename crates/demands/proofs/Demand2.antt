@@ -23,6 +23,8 @@ use Rattle.punching.specs.Rows.{headRows, cleared}
 use Rattle.punching.specs.Answers.{roomFor, headPunched, blockPunched}
 use Rattle.punching.proofs.Refusals.{block-written}
 use Rattle.punching.proofs.PunchedTapes.{block-appended, regrouped, head-tape}
+use Rattle.demands.specs.Parts.{Parts}
+use Rattle.demands.proofs.TapeParts.{parts}
 
 module _ (e : ℕ) (s t : List ℕ) where
   -- "A tape is accepted exactly when it is a tape of some program under the edition and shorthand,"
@@ -57,6 +59,11 @@ module _ (e : ℕ) (s t : List ℕ) where
       let a = tape-read e s t bs h in
       let same = as-many bs h in
       rw (a .1, le-ltb n (length (a .0)) (rw same l), same)
+
+  -- the rows of block n, as they are handed back, tie to the relation too: from just after the head's end to the last LF they are all the tape's rows, without a gap,
+  -- and behind any head, within the limit, each part alone is a tape of just its block
+  pub parts-said : (bs : List Block) → TapeOf e s bs t → Parts e s bs t
+  parts-said bs h = parts e s t bs h
 
 shorter : {n : ℕ} (t u : List ℕ) → length (t ++ u) ≤ n → length t ≤ n
 shorter t u l = omega (arith, length-append t u)

@@ -20,6 +20,7 @@ pub mod ReadBlocks
 pub mod Sound
 -- a program's rows joined, and its characters
 pub mod BlocksJoined
+pub mod BlockParts
 pub mod Ranges
 pub mod BareRows
 -- the bridge
