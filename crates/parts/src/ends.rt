@@ -1,25 +1,22 @@
 // An end, and the head of a tape.
 ghost use mathlib.Core.Path.{_≡_};
 ghost use lib.ListN.{length};
+ghost use Rattle.words.specs.declared.Wanted.{Wanted};
 ghost use Rattle.words.specs.Front.{rowsAt};
-ghost use Rattle.parts.specs.Ends.{afterCR, ended, headAt, entered};
+ghost use Rattle.parts.specs.Ends.{afterCR, ended, headAt, entered, closeAt};
 ghost use Rattle.parts.specs.Front.{foundTold, endTold, endRefusal};
 use crate::EndFound;
 use crate::EndRead;
 use rows::Checked;
 use rows::Next;
 use rows::Refusal;
-
-// The tape does not begin with "%" and an end; no word, tab or end stands; the tape ends inside a block.
-const NO_HEAD: u32 = 8;
-
-pub const NO_END: u32 = 10;
-
-pub const CUT: u32 = 14;
+use words::Wanted;
+use words::figures::refuse_front;
+use words::figures::wrong_number;
 
 // The LF that must stand behind a CR.
-fn behind_cr(tape: &[u8], cr: usize, front: Next, short: u32, other: u32) -> EndFound
-    ensures { λ r. ⌜ foundTold (now (tape .entry)) r ≡ afterCR (length (now (tape .entry))) short other (record { place = cr; char = 13 }) (rowsAt (now (tape .entry)) front) ⌝ }
+fn behind_cr(tape: &[u8], cr: usize, front: Next, wanted: Wanted) -> EndFound
+    ensures { λ r. ⌜ foundTold (now (tape .entry)) r ≡ afterCR (length (now (tape .entry))) wanted (record { place = cr; char = 13 }) (rowsAt (now (tape .entry)) front) ⌝ }
 {
     let Next::Row {
         character,
@@ -27,24 +24,21 @@ fn behind_cr(tape: &[u8], cr: usize, front: Next, short: u32, other: u32) -> End
         after,
     } = front
     else {
-        return EndFound::Refused(Refusal {
-            number: short,
-            place: tape.len(),
-        });
+        return EndFound::Refused(refuse_front(tape, front, wanted));
     };
     if character == 10 {
         EndFound::At(place, after)
     } else {
         EndFound::Refused(Refusal {
-            number: other,
+            number: wrong_number(wanted),
             place: cr,
         })
     }
 }
 
-// An end: LF, or CR directly before LF.
-pub fn find_end(tape: &[u8], front: Next, short: u32, other: u32) -> EndFound
-    ensures { λ r. ⌜ foundTold (now (tape .entry)) r ≡ ended (length (now (tape .entry))) short other (rowsAt (now (tape .entry)) front) ⌝ }
+// An end, the head's or a block's: LF, or CR directly before LF.
+fn find_lf(tape: &[u8], front: Next, wanted: Wanted) -> EndFound
+    ensures { λ r. ⌜ foundTold (now (tape .entry)) r ≡ ended (length (now (tape .entry))) wanted (rowsAt (now (tape .entry)) front) ⌝ }
 {
     let Next::Row {
         character,
@@ -52,26 +46,27 @@ pub fn find_end(tape: &[u8], front: Next, short: u32, other: u32) -> EndFound
         after,
     } = front
     else {
-        return EndFound::Refused(Refusal {
-            number: short,
-            place: tape.len(),
-        });
+        return EndFound::Refused(refuse_front(tape, front, wanted));
     };
     match character {
         10 => EndFound::At(place, after),
-        13 => behind_cr(tape, place, rows::next_kept(tape, after), short, other),
-        _ => EndFound::Refused(Refusal {
-            number: other,
-            place,
-        }),
+        13 => behind_cr(tape, place, rows::next_kept(tape, after), wanted),
+        _ => EndFound::Refused(refuse_front(tape, front, wanted)),
     }
 }
 
-// The same with the row behind it.
-fn read_end(tape: &[u8], front: Next, short: u32, other: u32) -> EndRead
-    ensures { λ r. ⌜ endTold (now (tape .entry)) r ≡ ended (length (now (tape .entry))) short other (rowsAt (now (tape .entry)) front) ⌝ }
+// The end of a block.
+pub fn find_end(tape: &[u8], front: Next) -> EndFound
+    ensures { λ r. ⌜ foundTold (now (tape .entry)) r ≡ closeAt (length (now (tape .entry))) (rowsAt (now (tape .entry)) front) ⌝ }
 {
-    match find_end(tape, front, short, other) {
+    find_lf(tape, front, Wanted::End)
+}
+
+// The end of the head, with the row behind it.
+fn read_end(tape: &[u8], front: Next) -> EndRead
+    ensures { λ r. ⌜ endTold (now (tape .entry)) r ≡ ended (length (now (tape .entry))) Wanted.Head (rowsAt (now (tape .entry)) front) ⌝ }
+{
+    match find_lf(tape, front, Wanted::Head) {
         EndFound::At(lf, after) => EndRead::At(lf, rows::next_kept(tape, after)),
         EndFound::Refused(r) => EndRead::Refused(r),
     }
@@ -83,22 +78,16 @@ fn read_head(tape: &[u8], front: Next) -> EndRead
 {
     let Next::Row {
         character,
-        place,
+        place: _,
         after,
     } = front
     else {
-        return EndRead::Refused(Refusal {
-            number: NO_HEAD,
-            place: tape.len(),
-        });
+        return EndRead::Refused(refuse_front(tape, front, Wanted::Head));
     };
     if character == 37 {
-        read_end(tape, rows::next_kept(tape, after), NO_HEAD, NO_HEAD)
+        read_end(tape, rows::next_kept(tape, after))
     } else {
-        EndRead::Refused(Refusal {
-            number: NO_HEAD,
-            place,
-        })
+        EndRead::Refused(refuse_front(tape, front, Wanted::Head))
     }
 }
 

@@ -10,7 +10,7 @@ ghost use Rattle.parts.specs.Front.{startTold};
 use crate::Begun;
 use crate::StartRead;
 use rows::Next;
-use rows::Refusal;
+use words::Wanted;
 use words::figures::is_digit_next;
 use words::figures::read_digits;
 use words::figures::refuse_front;
@@ -23,10 +23,10 @@ fn read_number(tape: &[u8], digits: usize, skip: bool, alignment: bool, front: N
     let q = read_digits(tape, front, digits);
     let rest = q.front;
     if q.count < digits {
-        return StartRead::Refused(refuse_front(tape, rest, 14, 9));
+        return StartRead::Refused(refuse_front(tape, rest, Wanted::Start));
     }
     if is_digit_next(rest) {
-        return StartRead::Refused(refuse_front(tape, rest, 14, 9));
+        return StartRead::Refused(refuse_front(tape, rest, Wanted::Start));
     }
     let begun = Begun {
         skip,
@@ -43,14 +43,11 @@ fn read_sequence(tape: &[u8], digits: usize, skip: bool, front: Next) -> StartRe
 {
     let Next::Row {
         character,
-        place,
+        place: _,
         after,
     } = front
     else {
-        return StartRead::Refused(Refusal {
-            number: 14,
-            place: tape.len(),
-        });
+        return StartRead::Refused(refuse_front(tape, front, Wanted::Start));
     };
     match character {
         78 | 58 => read_number(
@@ -60,7 +57,7 @@ fn read_sequence(tape: &[u8], digits: usize, skip: bool, front: Next) -> StartRe
             character == 58,
             rows::next_kept(tape, after),
         ),
-        _ => StartRead::Refused(Refusal { number: 9, place }),
+        _ => StartRead::Refused(refuse_front(tape, front, Wanted::Start)),
     }
 }
 

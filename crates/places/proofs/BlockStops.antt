@@ -17,7 +17,8 @@ use Rattle.shorthand.specs.Facts.{Facts}
 use Rattle.reading.specs.declared.Block.{Block}
 use Rattle.reading.specs.Record.{blockOf}
 use Rattle.reading.specs.Relation.{End, lf, cr-lf, skipRows, sequenceRows, Blocked, block, chars}
-use Rattle.words.specs.Figures.{Behind, taking, fronts, behind, isDigit, digitNext}
+use Rattle.words.specs.declared.Wanted.{Wanted}
+use Rattle.words.specs.Figures.{Behind, taking, wrongBy, cutBy, fronts, behind, isDigit, digitNext}
 use Rattle.parts.specs.Ends.{ended}
 use Rattle.parts.specs.declared.Begun.{Begun}
 use Rattle.parts.specs.Starts.{digitsAt, numberAt, startAt}
@@ -26,7 +27,7 @@ use Rattle.places.specs.Begins.{Digit}
 use Rattle.places.specs.Faults.{NoStart, lastOf}
 use Rattle.places.proofs.Steady.{Refuses, at-row, at-end, Goes, took, held, goes-after, goes-if, goes-map, goes-bind}
 use Rattle.places.proofs.DigitLists.{no-digit, coded}
-use Rattle.places.proofs.FigureStops.{fronts-like, Figured, FigureStop, figures-go}
+use Rattle.places.proofs.FigureStops.{fronts-like, Figured, FigureStop, not-thirteen, figures-go}
 use Rattle.places.proofs.WordsStops.{SomeWords, WordsStop, firm-after, words-go}
 
 -- a row that is refused, whatever stands behind it and the rows w
@@ -37,37 +38,37 @@ alone p r w f (d ∷ es) l e = absurd (omega arith)
 
 -- ---- an end
 
--- refused by n at a row, by e where the tape ends; the first row is a digit or not
-pub data EndStop (digit : Bool) (e n : ℕ) : ℕ → List ℕ → List ℕ → List ℕ → Type 0 where
-  no-end : {c : ℕ} → (c ≡ 10 → ⊥) → (c ≡ 13 → ⊥) → (digit ≡ false → Digit c → ⊥) → EndStop digit e n n [] [] (c ∷ [])
-  no-lf : {c : ℕ} → (c ≡ 10 → ⊥) → EndStop digit e n n [] [] (13 ∷ c ∷ [])
-  cut-end : EndStop digit e n e [] [] []
-  cut-lf : EndStop digit e n e (13 ∷ []) [] []
+-- refused as the end that is wanted, at a row or where the tape ends; the first row is a digit or not
+pub data EndStop (digit : Bool) (w : Wanted) : ℕ → List ℕ → List ℕ → List ℕ → Type 0 where
+  no-end : {c : ℕ} → (c ≡ 10 → ⊥) → (c ≡ 13 → ⊥) → (digit ≡ false → Digit c → ⊥) → EndStop digit w (wrongBy w) [] [] (c ∷ [])
+  no-lf : {c : ℕ} → (c ≡ 10 → ⊥) → EndStop digit w (wrongBy w) [] [] (13 ∷ c ∷ [])
+  cut-end : EndStop digit w (cutBy w) [] [] []
+  cut-lf : EndStop digit w (cutBy w) (13 ∷ []) [] []
 
-module _ (len e n : ℕ) (other : n ≡ 13 → ⊥) where
+module _ (len : ℕ) (w : Wanted) where
   abbrev Ends : List KeptRow → Answer (Behind ℕ) → Type 0
-  Ends rs x = Goes (ended len e n) len (λ p u l. End u) (EndStop (digitNext rs) e n) rs x
+  Ends rs x = Goes (ended len w) len (λ p u l. End u) (EndStop (digitNext rs) w) rs x
 
-  cr-goes : (r : KeptRow) → eqb (r .char) 10 ≡ false → eqb (r .char) 13 ≡ true → (rs : List KeptRow) → Ends (r ∷ rs) (ended len e n (r ∷ rs))
-  cr-goes r x y [] = rw (x, y) (held (at-end (r ∷ []) [] refl tt (subst (λ c. EndStop (isDigit (r .char)) e n e (c ∷ []) [] []) (sym (eqb-true (r .char) 13 y)) cut-lf)))
+  cr-goes : (r : KeptRow) → eqb (r .char) 10 ≡ false → eqb (r .char) 13 ≡ true → (rs : List KeptRow) → Ends (r ∷ rs) (ended len w (r ∷ rs))
+  cr-goes r x y [] = rw (x, y) (held (at-end (r ∷ []) [] refl tt (subst (λ c. EndStop (isDigit (r .char)) w (cutBy w) (c ∷ []) [] []) (sym (eqb-true (r .char) 13 y)) cut-lf)))
   cr-goes r x y (s ∷ rs) = rw (x, y) (go (eqb (s .char) 10) refl)
     where
-      go : (b : Bool) → eqb (s .char) 10 ≡ b → Ends (r ∷ s ∷ rs) (cond b (taking (s .place) rs) (refused n (r .place)))
+      go : (b : Bool) → eqb (s .char) 10 ≡ b → Ends (r ∷ s ∷ rs) (cond b (taking (s .place) rs) (refused (wrongBy w) (r .place)))
       go true z = took {a = s .place} (r ∷ s ∷ []) refl (rw (eqb-true (r .char) 13 y, eqb-true (s .char) 10 z) cr-lf) (λ l h. rw (x, y, z))
       go false z =
-          held (at-row [] [] (s ∷ []) rs r refl tt (subst (λ c. EndStop (isDigit (r .char)) e n n [] [] (c ∷ s .char ∷ [])) (sym (eqb-true (r .char) 13 y)) (no-lf (eqb-false (s .char) 10 z))) (λ h. absurd (other h))
-          (λ es l h k. alone (ended len e n) r (s ∷ []) (λ l. rw (x, y, z) tt) es l k))
+          held (at-row [] [] (s ∷ []) rs r refl tt (subst (λ c. EndStop (isDigit (r .char)) w (wrongBy w) [] [] (c ∷ s .char ∷ [])) (sym (eqb-true (r .char) 13 y)) (no-lf (eqb-false (s .char) 10 z))) (λ h. absurd (not-thirteen w h))
+          (λ es l h k. alone (ended len w) r (s ∷ []) (λ l. rw (x, y, z) tt) es l k))
 
-  pub ended-goes : (rs : List KeptRow) → Ends rs (ended len e n rs)
+  pub ended-goes : (rs : List KeptRow) → Ends rs (ended len w rs)
   ended-goes [] = held (at-end [] [] refl tt cut-end)
   ended-goes (r ∷ rs) = go (eqb (r .char) 10) refl (eqb (r .char) 13) refl
     where
-      go : (b : Bool) → eqb (r .char) 10 ≡ b → (c : Bool) → eqb (r .char) 13 ≡ c → Ends (r ∷ rs) (ended len e n (r ∷ rs))
+      go : (b : Bool) → eqb (r .char) 10 ≡ b → (c : Bool) → eqb (r .char) 13 ≡ c → Ends (r ∷ rs) (ended len w (r ∷ rs))
       go true x c y = rw x (took {a = r .place} (r ∷ []) refl (rw (eqb-true (r .char) 10 x) lf) (λ l h. rw x))
       go false x true y = cr-goes r x y rs
       go false x false y =
           rw (x, y)
-          (held (at-row [] [] [] rs r refl tt (no-end (eqb-false (r .char) 10 x) (eqb-false (r .char) 13 y) (no-digit (r .char))) (λ h. absurd (other h)) (λ es l h k. alone (ended len e n) r [] (λ l. rw (x, y) tt) es l k)))
+          (held (at-row [] [] [] rs r refl tt (no-end (eqb-false (r .char) 10 x) (eqb-false (r .char) 13 y) (no-digit (r .char))) (λ h. absurd (not-thirteen w h)) (λ es l h k. alone (ended len w) r [] (λ l. rw (x, y) tt) es l k)))
 
 -- ---- a block
 
@@ -82,9 +83,9 @@ opened-some (opened false alignment small) r = zero-lt-suc _
 pub data BlockStop (f : Format) : ℕ → List ℕ → List ℕ → List ℕ → Type 0 where
   no-start : {c : ℕ} (skip : Bool) → NoStart skip c → BlockStop f 9 (skipRows skip) [] (c ∷ [])
   cut-start : (skip : Bool) → BlockStop f 14 (skipRows skip) [] []
-  in-number : {n : ℕ} {b ds w : List ℕ} {sg : Bool} (skip alignment : Bool) → FigureStop sg 9 Nothing (f .sequence) n b ds w → BlockStop f n (skipRows skip ++ (cond alignment 58 78 ∷ b)) ds w
+  in-number : {n : ℕ} {b ds w : List ℕ} {sg : Bool} (skip alignment : Bool) → FigureStop sg Wanted.Start Nothing (f .sequence) n b ds w → BlockStop f n (skipRows skip ++ (cond alignment 58 78 ∷ b)) ds w
   in-words : {n : ℕ} {b ds w s : List ℕ} → Opened f s → WordsStop (f .dots) (itemsOf f) n b ds w → BlockStop f n (s ++ b) ds w
-  in-end : {n : ℕ} {b ds w s r : List ℕ} {digit : Bool} → Opened f s → SomeWords (f .dots) (itemsOf f) r → (Digit (lastOf (s ++ r)) → digit ≡ false) → EndStop digit 14 10 n b ds w
+  in-end : {n : ℕ} {b ds w s r : List ℕ} {digit : Bool} → Opened f s → SomeWords (f .dots) (itemsOf f) r → (Digit (lastOf (s ++ r)) → digit ≡ false) → EndStop digit Wanted.End n b ds w
       → BlockStop f n (s ++ (r ++ b)) ds w
 
 abbrev pub SomeBlock : Format → List ℕ → Type 0
@@ -129,7 +130,7 @@ module _ (f : Format) (len : ℕ) where
     digits-go : (alignment : Bool) (rs : List KeptRow)
         → Goes (digitsAt len (f .sequence) skip alignment) len (λ b v l. Begins (fore alignment v) l) (λ n b ds w. BlockStop f n (fore alignment b) ds w) rs (digitsAt len (f .sequence) skip alignment rs)
     digits-go alignment rs =
-        goes-bind (goes-map (λ a u l h. h) (λ n b ds w h. in-number skip alignment h) (figures-go len 9 Nothing (f .sequence) (λ e. omega arith) rs)) λ m ds rest e h.
+        goes-bind (goes-map (λ a u l h. h) (λ n b ds w h. in-number skip alignment h) (figures-go len Wanted.Start Nothing (f .sequence) rs)) λ m ds rest e h.
         took [] refl (rw (append-nil (chars ds)) (opens alignment m (chars ds) h), h .apart) (λ l e. refl)
 
     -- from the sequence word on, where "/" stood before it or doesn't stand here
@@ -170,5 +171,5 @@ module _ (f : Format) (len : ℕ) where
   block-goes facts rs =
       goes-bind {f = λ b l. wordsAndEnd len f (record { value = b; rest = l })} (start-goes rs) λ b s rest e h.
       goes-bind (goes-map (λ a u l k. k) (λ n b es w q. in-words (h .0) q) (words-go len (f .dots) (facts .fair) rest)) λ ws u rest₂ e k.
-      goes-bind (goes-map (λ a v l z. z) (λ n b es w q. in-end (h .0) (k .0) (firm-after (chars s) u rest rest₂ e (h .1) (k .1)) q) (ended-goes len 14 10 (λ e. omega arith) rest₂)) λ p v rest₃ e z.
+      goes-bind (goes-map (λ a v l z. z) (λ n b es w q. in-end (h .0) (k .0) (firm-after (chars s) u rest rest₂ e (h .1) (k .1)) q) (ended-goes len Wanted.End rest₂)) λ p v rest₃ e z.
       took [] refl (rw (append-nil (chars v)) (closed (h .0) (k .0) z)) (λ l e. refl)

@@ -15,7 +15,8 @@ use Rattle.rows.specs.Passes.{Every}
 use Rattle.shorthand.specs.declared.Missing.{Missing}
 use Rattle.shorthand.specs.declared.Missing.the-variants.{Nothing, Leading, Trailing}
 use Rattle.reading.specs.Relation.{chars}
-use Rattle.words.specs.Figures.{taking, wrong, fronts, isDigit, digitNext, isSign, Run, run, restored, fewest, figures}
+use Rattle.words.specs.declared.Wanted.{Wanted}
+use Rattle.words.specs.Figures.{taking, wrongBy, cutBy, wrong, fronts, isDigit, digitNext, isSign, Run, run, restored, fewest, figures}
 use Rattle.reading.proofs.DigitRows.{worth}
 use Rattle.reading.proofs.RowsAhead.{is-digit}
 use Rattle.places.specs.Begins.{Digit}
@@ -107,18 +108,25 @@ abbrev pub signNext : List KeptRow → Bool
 signNext [] = false
 signNext (r ∷ rs) = isSign (r .char)
 
--- refused by x at a row, by 14 at the end; the first row is a sign or not
-pub data FigureStop (sg : Bool) (x : ℕ) (z : Missing) (n : ℕ) : ℕ → List ℕ → List ℕ → List ℕ → Type 0 where
-  miscounted : {ds : List ℕ} {c : ℕ} → Every Digit ds → Miscounted (fewest z n) n ds c → (ds ≡ [] → isSign c ≡ sg) → FigureStop sg x z n x [] ds (c ∷ [])
-  cut : {ds : List ℕ} → Every Digit ds → length ds < fewest z n → FigureStop sg x z n 14 [] ds []
+-- refused as digits of what is wanted, at a row or at the end; the first row is a sign or not
+pub data FigureStop (sg : Bool) (x : Wanted) (z : Missing) (n : ℕ) : ℕ → List ℕ → List ℕ → List ℕ → Type 0 where
+  miscounted : {ds : List ℕ} {c : ℕ} → Every Digit ds → Miscounted (fewest z n) n ds c → (ds ≡ [] → isSign c ≡ sg) → FigureStop sg x z n (wrongBy x) [] ds (c ∷ [])
+  cut : {ds : List ℕ} → Every Digit ds → length ds < fewest z n → FigureStop sg x z n (cutBy x) [] ds []
 
 first-sign : (rs ds a : List KeptRow) (r : KeptRow) → rs ≡ ds ++ (r ∷ a) → chars ds ≡ [] → isSign (r .char) ≡ signNext rs
 first-sign rs [] a r e n = ap signNext (sym e)
 first-sign rs (d ∷ ds) a r e n = let z = ap length n in absurd (omega arith)
 
-module _ (len x : ℕ) (z : Missing) (n : ℕ) where
+-- 13 is of no thing that is wanted
+pub not-thirteen : (x : Wanted) → wrongBy x ≡ 13 → ⊥
+not-thirteen Wanted.Head e = omega arith
+not-thirteen Wanted.Start e = omega arith
+not-thirteen Wanted.End e = omega arith
+not-thirteen Wanted.Digits e = omega arith
+
+module _ (len : ℕ) (x : Wanted) (z : Missing) (n : ℕ) where
   pub figures-are : (ds rest : List KeptRow) → Every Digit (chars ds) → length ds ≤ n → (length ds ≡ n) ⊎ (digitNext rest ≡ false)
-      → figures len x z n (ds ++ rest) ≡ cond (suits z n ds rest) (taking (restored z n (ranOf ds rest)) rest) (wrong len 14 x rest)
+      → figures len x z n (ds ++ rest) ≡ cond (suits z n ds rest) (taking (restored z n (ranOf ds rest)) rest) (wrong len x rest)
   unfolding figures
   figures-are ds rest all few why = rw (run-is n 0 0 ds rest all few why, zero-add)
 
@@ -133,9 +141,9 @@ module _ (len x : ℕ) (z : Missing) (n : ℕ) where
       go false d true e k h = absurd (false≢true (sym h))
       go false d false e k h = too-few (omega (arith, length-map ds (λ s. s .char), leb-false (fewest z n) (length ds) e)) (no-digit (r .char) d)
 
-  goes-on : (x ≡ 13 → ⊥) → (rs ds rest : List KeptRow) → rs ≡ ds ++ rest → Every Digit (chars ds) → length ds ≤ n → (length ds ≡ n) ⊎ (digitNext rest ≡ false)
-      → (b : Bool) → suits z n ds rest ≡ b → Goes (figures len x z n) len (Figured z n) (FigureStop (signNext rs) x z n) rs (cond b (taking (restored z n (ranOf ds rest)) rest) (wrong len 14 x rest))
-  goes-on other rs ds rest split all few why true e =
+  goes-on : (rs ds rest : List KeptRow) → rs ≡ ds ++ rest → Every Digit (chars ds) → length ds ≤ n → (length ds ≡ n) ⊎ (digitNext rest ≡ false)
+      → (b : Bool) → suits z n ds rest ≡ b → Goes (figures len x z n) len (Figured z n) (FigureStop (signNext rs) x z n) rs (cond b (taking (restored z n (ranOf ds rest)) rest) (wrong len x rest))
+  goes-on rs ds rest split all few why true e =
       let p = and-eq-true-iff (leb (fewest z n) (length ds)) (not (digitNext rest)) .0 e in
       let c = length-map ds (λ s. s .char) in
       took ds split
@@ -148,24 +156,24 @@ module _ (len x : ℕ) (z : Missing) (n : ℕ) where
       })
       (λ l h. let d : digitNext l ≡ false = sym (digit-like rest l h) ∙ not-true (digitNext rest) (p .1) in
       figures-are ds l all few (inr d) ∙ rw (p .0, d, restored-any z n ds l rest))
-  goes-on other rs ds [] split all few why false e =
+  goes-on rs ds [] split all few why false e =
       let c = length-map ds (λ s. s .char) in
       held (at-end [] ds (split ∙ append-nil ds) all (cut {ds = chars ds} all (omega (arith, leb-false (fewest z n) (length ds) (and-true (leb (fewest z n) (length ds)) e)))))
     where
       and-true : (b : Bool) → (b && true) ≡ false → b ≡ false
       and-true true h = h
       and-true false h = refl
-  goes-on other rs ds (r ∷ a) split all few why false e =
-      held (at-row [] ds [] a r split all (miscounted all (why-wrong ds r why e) (first-sign rs ds a r split)) (λ e. absurd (other e))
-      (λ es l h k. let q : figures len x z n (es ++ (r ∷ l)) ≡ refused x (r .place) = figures-are es (r ∷ l) h (omega arith) (same es k why) ∙ rw (k, e) in
+  goes-on rs ds (r ∷ a) split all few why false e =
+      held (at-row [] ds [] a r split all (miscounted all (why-wrong ds r why e) (first-sign rs ds a r split)) (λ e. absurd (not-thirteen x e))
+      (λ es l h k. let q : figures len x z n (es ++ (r ∷ l)) ≡ refused (wrongBy x) (r .place) = figures-are es (r ∷ l) h (omega arith) (same es k why) ∙ rw (k, e) in
       rw q tt))
     where
       same : (es : List KeptRow) → length es ≡ length ds → (length ds ≡ n) ⊎ (isDigit (r .char) ≡ false) → (length es ≡ n) ⊎ (isDigit (r .char) ≡ false)
       same es k (inl h) = inl (k ∙ h)
       same es k (inr h) = inr h
 
-  pub figures-go : (x ≡ 13 → ⊥) → (rs : List KeptRow) → Goes (figures len x z n) len (Figured z n) (FigureStop (signNext rs) x z n) rs (figures len x z n rs)
-  figures-go other rs =
+  pub figures-go : (rs : List KeptRow) → Goes (figures len x z n) len (Figured z n) (FigureStop (signNext rs) x z n) rs (figures len x z n rs)
+  figures-go rs =
       let s = spread n rs in
       subst (λ y. Goes (figures len x z n) len (Figured z n) (FigureStop (signNext rs) x z n) rs y) (sym (ap (figures len x z n) (s .split) ∙ figures-are (s .ds) (s .rest) (s .all) (s .few) (s .why)))
-      (goes-on other rs (s .ds) (s .rest) (s .split) (s .all) (s .few) (s .why) (suits z n (s .ds) (s .rest)) refl)
+      (goes-on rs (s .ds) (s .rest) (s .split) (s .all) (s .few) (s .why) (suits z n (s .ds) (s .rest)) refl)

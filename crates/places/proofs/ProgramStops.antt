@@ -14,6 +14,7 @@ use Rattle.shorthand.specs.declared.Format.{Format}
 use Rattle.shorthand.specs.Facts.{Facts}
 use Rattle.reading.specs.declared.Block.{Block}
 use Rattle.reading.specs.Relation.{End, Blocks, none, more, Program, program}
+use Rattle.words.specs.declared.Wanted.{Wanted}
 use Rattle.words.specs.Figures.{Behind, taking, wrong, fronts, behind}
 use Rattle.parts.specs.Ends.{ended}
 use Rattle.reading.specs.Parse.{BlockRead, blockAt, entry, blocksAt}
@@ -28,7 +29,7 @@ use Rattle.places.proofs.BlockStops.{alone, EndStop, ended-goes, BlockS
 pub data HeadStop : ℕ → List ℕ → List ℕ → List ℕ → Type 0 where
   no-percent : {c : ℕ} → (c ≡ 37 → ⊥) → HeadStop 8 [] [] (c ∷ [])
   cut-percent : HeadStop 8 [] [] []
-  in-end : {n : ℕ} {b ds w : List ℕ} {digit : Bool} → EndStop digit 8 8 n b ds w → HeadStop n (37 ∷ b) ds w
+  in-end : {n : ℕ} {b ds w : List ℕ} {digit : Bool} → EndStop digit Wanted.Head n b ds w → HeadStop n (37 ∷ b) ds w
 
 -- "%" and an end
 abbrev Headed : List ℕ → Type 0
@@ -39,14 +40,14 @@ unfolding headAt
 head-goes len [] = held (at-end [] [] refl tt cut-percent)
 head-goes len (r ∷ rs) = go (eqb (r .char) 37) refl
   where
-    go : (b : Bool) → eqb (r .char) 37 ≡ b → Goes (λ l. cond (fronts 37 l) (ended len 8 8 (behind l)) (wrong len 8 8 l)) len (λ p u l. Headed u) HeadStop (r ∷ rs) (cond b (ended len 8 8 rs) (refused 8 (r .place)))
+    go : (b : Bool) → eqb (r .char) 37 ≡ b → Goes (λ l. cond (fronts 37 l) (ended len Wanted.Head (behind l)) (wrong len Wanted.Head l)) len (λ p u l. Headed u) HeadStop (r ∷ rs) (cond b (ended len Wanted.Head rs) (refused 8 (r .place)))
     go true e =
         let m = eqb-true (r .char) 37 e in
-        goes-after {o = ended len 8 8} (r ∷ []) refl (λ l h. ap (λ b. cond b (ended len 8 8 l) (refused 8 (r .place))) e)
-        (goes-map (λ a u l h. (u, h, rw m)) (λ n b ds w h. subst (λ c. HeadStop n (c ∷ b) ds w) (sym m) (in-end h)) (ended-goes len 8 8 (λ e. omega arith) rs))
+        goes-after {o = ended len Wanted.Head} (r ∷ []) refl (λ l h. ap (λ b. cond b (ended len Wanted.Head l) (refused 8 (r .place))) e)
+        (goes-map (λ a u l h. (u, h, rw m)) (λ n b ds w h. subst (λ c. HeadStop n (c ∷ b) ds w) (sym m) (in-end h)) (ended-goes len Wanted.Head rs))
     go false e =
         held (at-row [] [] [] rs r refl tt (no-percent (eqb-false (r .char) 37 e)) (λ h. absurd (omega arith))
-        (λ es l h k. alone (λ l. cond (fronts 37 l) (ended len 8 8 (behind l)) (wrong len 8 8 l)) r [] (λ l. rw e tt) es l k))
+        (λ es l h k. alone (λ l. cond (fronts 37 l) (ended len Wanted.Head (behind l)) (wrong len Wanted.Head l)) r [] (λ l. rw e tt) es l k))
 
 -- ---- all blocks
 

@@ -13,6 +13,7 @@ use Rattle.rows.specs.Kept.{KeptRow}
 use Rattle.shorthand.specs.declared.Kind.{Kind}
 use Rattle.shorthand.specs.Layout.{Sign, barred, required, optional, signOf, width}
 use Rattle.reading.specs.Relation.{Signed, chars}
+use Rattle.words.specs.declared.Wanted.{Wanted}
 use Rattle.words.specs.Figures.{Behind, taking, isSign, mayStand, mayMiss, figures, signed}
 use Rattle.words.specs.Data.{missingOf}
 use Rattle.reading.proofs.ReadData.{SignRows, sign-stands, sign-missing, sign-is}
@@ -78,15 +79,15 @@ pub record Given (k : Kind) (y : Bool × ℕ) (u : List ℕ) (rest : List KeptRo
 
 pub data DataStop (k : Kind) : ℕ → List ℕ → List ℕ → List ℕ → Type 0 where
   in-sign : {n : ℕ} {b ds w : List ℕ} → SignStop (signOf k) n b ds w → DataStop k n b ds w
-  in-figures : {n m : ℕ} {z : ℤ} {s b ds w : List ℕ} {sg : Bool} → Signed m (signOf k) z s → (s ≡ [] → sg ≡ false) → FigureStop sg 11 (missingOf k) (width k) n b ds w
+  in-figures : {n m : ℕ} {z : ℤ} {s b ds w : List ℕ} {sg : Bool} → Signed m (signOf k) z s → (s ≡ [] → sg ≡ false) → FigureStop sg Wanted.Digits (missingOf k) (width k) n b ds w
       → DataStop k n (s ++ b) ds w
 
 -- the sign and the figures behind an address
 abbrev pub given : ℕ → Kind → List KeptRow → Answer (Behind (Bool × ℕ))
-given len k rs = signed len (signOf k) rs >>= λ s. figures len 11 (missingOf k) (width k) (s .rest) >>= λ m. taking (s .value, m .value) (m .rest)
+given len k rs = signed len (signOf k) rs >>= λ s. figures len Wanted.Digits (missingOf k) (width k) (s .rest) >>= λ m. taking (s .value, m .value) (m .rest)
 
 pub given-goes : (len : ℕ) (k : Kind) (rs : List KeptRow) → Goes (given len k) len (Given k) (DataStop k) rs (given len k rs)
 given-goes len k rs =
     goes-bind (goes-map (λ a u l h. h) (λ n b ds w h. in-sign h) (signed-go len (signOf k) rs)) λ neg s rest e g.
-    goes-bind (goes-map (λ a u l h. h) (λ n b ds w h. in-figures (g .0 0) (g .1) h) (figures-go len 11 (missingOf k) (width k) (λ e. omega arith) rest)) λ m ds rest₂ e h.
+    goes-bind (goes-map (λ a u l h. h) (λ n b ds w h. in-figures (g .0 0) (g .1) h) (figures-go len Wanted.Digits (missingOf k) (width k) rest)) λ m ds rest₂ e h.
     took [] refl (record { sgn = chars s; ds = chars ds; split = rw append-nil; signs = g .0; figured = h }) (λ l e. refl)

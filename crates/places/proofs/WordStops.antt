@@ -20,6 +20,7 @@ use Rattle.shorthand.specs.Facts.{Widths}
 use Rattle.words.specs.declared.Value.{Value}
 use Rattle.words.specs.declared.Word.{Word}
 use Rattle.reading.specs.Relation.{digits, Data, number, speed, dimension, Worded, word, chars}
+use Rattle.words.specs.declared.Wanted.{Wanted}
 use Rattle.words.specs.Figures.{Behind, taking, wrong, digitNext, figures, signed}
 use Rattle.words.specs.Data.{missingOf, spoken, meant, dataAt, wordAt}
 use Rattle.reading.proofs.ReadData.{barred-none}
@@ -52,7 +53,7 @@ verdict a it neg m l = (meant a (it .kind) neg m >>= λ x. taking x l) >>= λ x.
 word-is : (len : ℕ) (it : Item) (r : KeptRow) (l : List KeptRow) → wordAt len it (r ∷ l) ≡ given len (it .kind) l >>= λ y. verdict (r .place) it (y .value .0) (y .value .1) (y .rest)
 unfolding dataAt
 word-is len it r l =
-    regroup (signed len (signOf (it .kind)) l) (figures len 11 (missingOf (it .kind)) (width (it .kind))) (λ neg m rest. meant (r .place) (it .kind) neg m >>= λ x. taking x rest)
+    regroup (signed len (signOf (it .kind)) l) (figures len Wanted.Digits (missingOf (it .kind)) (width (it .kind))) (λ neg m rest. meant (r .place) (it .kind) neg m >>= λ x. taking x rest)
     (λ x. taking (record { letter = it .letter; value = x .value }) (x .rest))
 
 -- ---- what was given stands as a word
@@ -105,9 +106,9 @@ pub data WordStop (it : Item) : ℕ → List ℕ → List ℕ → List ℕ → T
   in-data : {n : ℕ} {b ds w : List ℕ} → DataStop (it .kind) n b ds w → WordStop it n (it .letter ∷ b) ds w
   thirteen : {j : ℕ} (c : ℕ) → it .kind ≡ Kind.Speed j → c < 10 ^ j → T (secondZero j c) → WordStop it 13 [] [] (it .letter ∷ digits j c)
 
-refuses-wrong : (A : Type 0) (len e n : ℕ) (l : List KeptRow) → Refuses (wrong {A = A} len e n l)
-refuses-wrong A len e n [] = tt
-refuses-wrong A len e n (r ∷ l) = tt
+refuses-wrong : (A : Type 0) (len : ℕ) (w : Wanted) (l : List KeptRow) → Refuses (wrong {A = A} len w l)
+refuses-wrong A len w [] = tt
+refuses-wrong A len w (r ∷ l) = tt
 
 true-is : (b : Bool) → T b → b ≡ true
 true-is true t = refl
@@ -116,13 +117,13 @@ true-is false t = absurd t
 -- the digits of a refused code are refused, whatever stands behind them
 module _ (len j : ℕ) (some : 1 ≤ j) where
   given-digits : (u l : List KeptRow) → Every Digit (chars u) → length u ≡ j → given len (Kind.Speed j) (u ++ l)
-      ≡ cond (suits Nothing j u l) (taking {A = Bool × ℕ} (false, worth 0 (chars u)) l) (wrong len 14 11 l)
+      ≡ cond (suits Nothing j u l) (taking {A = Bool × ℕ} (false, worth 0 (chars u)) l) (wrong len Wanted.Digits l)
   given-digits [] l all e = absurd (omega arith)
   given-digits (d ∷ u) l all e =
-      rw (digit-no-sign (d .char) (all .0), figures-are len 11 Nothing j (d ∷ u) l all (omega arith) (inl e)) (go (suits Nothing j (d ∷ u) l) l)
+      rw (digit-no-sign (d .char) (all .0), figures-are len Wanted.Digits Nothing j (d ∷ u) l all (omega arith) (inl e)) (go (suits Nothing j (d ∷ u) l) l)
     where
-      go : (b : Bool) (l : List KeptRow) → (cond b (taking (worth 0 (chars (d ∷ u))) l) (wrong len 14 11 l) >>= λ m. taking {A = Bool × ℕ} (false, m .value) (m .rest))
-          ≡ cond b (taking (false, worth 0 (chars (d ∷ u))) l) (wrong len 14 11 l)
+      go : (b : Bool) (l : List KeptRow) → (cond b (taking (worth 0 (chars (d ∷ u))) l) (wrong len Wanted.Digits l) >>= λ m. taking {A = Bool × ℕ} (false, m .value) (m .rest))
+          ≡ cond b (taking (false, worth 0 (chars (d ∷ u))) l) (wrong len Wanted.Digits l)
       go true l = refl
       go false [] = refl
       go false (r ∷ l) = refl
@@ -137,9 +138,9 @@ module _ (len j : ℕ) (some : 1 ≤ j) where
       (go told (suits Nothing j u l))
     where
       go : speedFor j (worth 0 (chars u)) ≡ refused 13 0 → (b : Bool)
-          → Refuses (cond b (taking {A = Bool × ℕ} (false, worth 0 (chars u)) l) (wrong len 14 11 l) >>= λ y. verdict (r .place) (record { letter = letter; kind = Kind.Speed j }) (y .value .0) (y .value .1) (y .rest))
+          → Refuses (cond b (taking {A = Bool × ℕ} (false, worth 0 (chars u)) l) (wrong len Wanted.Digits l) >>= λ y. verdict (r .place) (record { letter = letter; kind = Kind.Speed j }) (y .value .0) (y .value .1) (y .rest))
       go e true = rw e tt
-      go e false = refuses-bind (wrong len 14 11 l) _ (refuses-wrong (Behind (Bool × ℕ)) len 14 11 l)
+      go e false = refuses-bind (wrong len Wanted.Digits l) _ (refuses-wrong (Behind (Bool × ℕ)) len Wanted.Digits l)
 
 module _ (len : ℕ) (it : Item) (w : Widths (it .kind)) (r : KeptRow) (addressed : r .char ≡ it .letter) (rs : List KeptRow) where
   word-from : {x : Answer (Behind (Bool × ℕ))} → Goes (given len (it .kind)) len (Given (it .kind)) (DataStop (it .kind)) rs x

@@ -11,6 +11,7 @@ use Rattle.shorthand.specs.declared.Format.{Format}
 use Rattle.shorthand.specs.Facts.{Facts}
 use Rattle.reading.specs.declared.Block.{Block}
 use Rattle.reading.specs.Relation.{Words, End, lf, cr-lf, skipRows, sequenceRows, Blocked, block, chars}
+use Rattle.words.specs.declared.Wanted.{Wanted}
 use Rattle.words.specs.Figures.{fronts, behind, isDigit}
 use Rattle.parts.specs.Ends.{ended}
 use Rattle.parts.specs.Starts.{numberAt, startAt}
@@ -20,12 +21,12 @@ use Rattle.reading.proofs.WordTakes.{reads-full, figures-take}
 use Rattle.reading.proofs.WordsTake.{words-apart, words-take}
 
 -- an end, and the place of its LF
-pub end-takes : {e : List ℕ} → End e → (len a b : ℕ) (rs : List KeptRow) (u : List ℕ) → chars rs ≡ e ++ u → (place : ℕ) × Takes (ended len a b rs) place u
-end-takes lf len a b [] u q = let z = ap length q in absurd (omega arith)
-end-takes lf len a b (r ∷ rs) u q = let c : r .char ≡ 10 = cc in (r .place, record { rest = rs; takes = rw c; leaves = cc })
-end-takes cr-lf len a b [] u q = let z = ap length q in absurd (omega arith)
-end-takes cr-lf len a b (r ∷ []) u q = let z = ap length q in absurd (omega arith)
-end-takes cr-lf len a b (r ∷ (l ∷ rs)) u q =
+pub end-takes : {e : List ℕ} → End e → (len : ℕ) (w : Wanted) (rs : List KeptRow) (u : List ℕ) → chars rs ≡ e ++ u → (place : ℕ) × Takes (ended len w rs) place u
+end-takes lf len w [] u q = let z = ap length q in absurd (omega arith)
+end-takes lf len w (r ∷ rs) u q = let c : r .char ≡ 10 = cc in (r .place, record { rest = rs; takes = rw c; leaves = cc })
+end-takes cr-lf len w [] u q = let z = ap length q in absurd (omega arith)
+end-takes cr-lf len w (r ∷ []) u q = let z = ap length q in absurd (omega arith)
+end-takes cr-lf len w (r ∷ (l ∷ rs)) u q =
     let c : r .char ≡ 13 = cc in
     let d : l .char ≡ 10 = cc in
     (l .place, record { rest = rs; takes = rw (c, d); leaves = cc })
@@ -41,7 +42,7 @@ number-takes : (len d : ℕ) (skip alignment : Bool) {n : ℕ} → n < 10 ^ d �
     → Takes (numberAt len d skip rs) (record { skip = skip; alignment = alignment; sequence = n }) u
 number-takes len d skip alignment {n} small u apart rs q =
     let m = marked alignment rs _ q in
-    let a = figures-take len 9 d n Nothing _ _ (behind rs) (reads-full d n small) (behind-chars _ _ rs q) apart in
+    let a = figures-take len Wanted.Start d n Nothing _ _ (behind rs) (reads-full d n small) (behind-chars _ _ rs q) apart in
     record { rest = a .rest; takes = rw (m .0, m .1, a .takes); leaves = a .leaves }
 
 -- "/" or none before them
@@ -57,7 +58,7 @@ unfolding blockAt
 block-takes f facts (block {n} {ws} {r} {e} skip alignment small w end) len s rs q =
     let a = start-takes len (f .sequence) skip alignment small (r ++ (e ++ s)) (words-apart (facts .fair) w end s) rs (q ∙ simp append-assoc) in
     let b = words-take len (f .dots) s end w (facts .fair) (a .rest) (a .leaves) in
-    let c = end-takes end len 14 10 (b .rest) s (b .leaves) in
+    let c = end-takes end len Wanted.End (b .rest) s (b .leaves) in
     (c .0, record { rest = c .1 .rest; takes = rw (a .takes, b .takes, c .1 .takes); leaves = c .1 .leaves })
 
 -- a block has at least one row

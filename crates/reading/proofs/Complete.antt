@@ -10,6 +10,7 @@ use Rattle.shorthand.specs.declared.Format.{Format}
 use Rattle.shorthand.specs.Facts.{Facts}
 use Rattle.reading.specs.declared.Block.{Block}
 use Rattle.reading.specs.Relation.{Blocks, none, more, Program, program, chars}
+use Rattle.words.specs.declared.Wanted.{Wanted}
 use Rattle.words.specs.Figures.{behind}
 use Rattle.reading.specs.Parse.{Entry, entry, blockAt, blocksAt}
 use Rattle.parts.specs.Ends.{headAt}
@@ -52,7 +53,7 @@ module _ (f : Format) (facts : Facts f) (len : ℕ) where
   program-takes : {bs : List Block} {x : List ℕ} → Program f bs x → (rs : List KeptRow) → chars rs ≡ x → Entries (programAt len f rs) bs
   unfolding programAt headAt
   program-takes (program {bs} {e} {r} end q) rs h =
-      let t = end-takes end len 8 8 (behind rs) r (behind-chars 37 (e ++ r) rs h) in
+      let t = end-takes end len Wanted.Head (behind rs) r (behind-chars 37 (e ++ r) rs h) in
       rw (fronts-heads 37 rs, h, t .1 .takes) (blocks-take q (length (t .1 .rest)) (t .0 + 1) (t .1 .rest) (t .1 .leaves) (omega arith))
 
 pub complete : (f : Format) → Facts f → (bs : List Block) (len : ℕ) (rs : List KeptRow) → Program f bs (chars rs)

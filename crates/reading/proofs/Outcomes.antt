@@ -2,11 +2,13 @@
 use Prim.Native.Nat.{ℕ, _≤_}
 use mathlib.Core.Path.{_≡_, refl, sym, _∙_, subst}
 use mathlib.Core.List.{List, [], _∷_, _++_, append-assoc, map-append}
+use lib.Dec.{lit≤}
 use Rattle.rows.specs.Answer.{Answer, _>>=_}
 use Rattle.rows.specs.Kept.{KeptRow}
 use Rattle.rows.proofs.Outcomes.{Holds, refusal, value, holds-map, holds-bind}
 use Rattle.reading.specs.Relation.{chars}
-use Rattle.words.specs.Figures.{Behind, taking, wrong}
+use Rattle.words.specs.declared.Wanted.{Wanted}
+use Rattle.words.specs.Figures.{Behind, taking, wrongBy, cutBy, wrong}
 
 -- the rows that a parser takes stand before its rest, and R is of them and of its value
 pub record Reads {A : Type 0} (R : A → List KeptRow → Type 0) (rs : List KeptRow) (x : Behind A) : Type 0 where
@@ -54,8 +56,20 @@ module _ {Q : ℕ → ℕ → Type 0} {A B : Type 0} {R : A → List KeptRow →
   reads-then all h g =
       holds-bind h (λ a k. reads-after (k .took) (k .split) (g a (k .took) (placed-behind (k .took) (k .split) all) (k .stands)))
 
--- the row found at the front is refused by n, or the end of the tape by e
-pub wrong-told : {Q : ℕ → ℕ → Type 0} {P : ℕ → Type 0} {A : Type 0} {S : A → Type 0} (len e n : ℕ) → Q e len → ((p : ℕ) → P p → Q n p) → (rs : List KeptRow) → Placed P rs
-    → Holds Q S (wrong len e n rs)
-wrong-told len e n ends at [] all = refusal ends
-wrong-told len e n ends at (r ∷ rs) (next-row h all) = refusal (at (r .place) h)
+-- what is wanted and missing is refused as the table says, at the row found there or where the tape ends
+module _ {Q : ℕ → ℕ → Type 0} {P : ℕ → Type 0} {len : ℕ} (t : Table Q P len) where
+  pub cut-told : (w : Wanted) → Q (cutBy w) len
+  cut-told Wanted.Head = t .no-head
+  cut-told Wanted.Start = t .cut
+  cut-told Wanted.End = t .cut
+  cut-told Wanted.Digits = t .cut
+
+  pub row-told : (w : Wanted) (p : ℕ) → P p → Q (wrongBy w) p
+  row-told Wanted.Head = t .at-row 8 (lit≤ tt) (lit≤ tt)
+  row-told Wanted.Start = t .at-row 9 (lit≤ tt) (lit≤ tt)
+  row-told Wanted.End = t .at-row 10 (lit≤ tt) (lit≤ tt)
+  row-told Wanted.Digits = t .at-row 11 (lit≤ tt) (lit≤ tt)
+
+  pub wrong-told : {A : Type 0} {S : A → Type 0} (w : Wanted) (rs : List KeptRow) → Placed P rs → Holds Q S (wrong len w rs)
+  wrong-told w [] all = refusal (cut-told w)
+  wrong-told w (r ∷ rs) (next-row h all) = refusal (row-told w (r .place) h)

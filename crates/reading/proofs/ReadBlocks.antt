@@ -18,6 +18,7 @@ use Rattle.shorthand.specs.Layout.{itemsOf}
 use Rattle.reading.specs.declared.Block.{Block}
 use Rattle.reading.specs.Relation.{End, lf, cr-lf, skipRows, sequenceRows, Blocked, block, chars}
 use Rattle.parts.specs.declared.Begun.{Begun}
+use Rattle.words.specs.declared.Wanted.{Wanted}
 use Rattle.words.specs.Figures.{Behind, fronts, behind}
 use Rattle.parts.specs.Ends.{afterCR, ended}
 use Rattle.reading.specs.Parse.{BlockRead, blockAt, Entry, blocksAt}
@@ -25,7 +26,7 @@ use Rattle.parts.specs.Ends.{headAt}
 use Rattle.reading.specs.Answers.{programAt}
 use Rattle.parts.specs.Starts.{numberAt, startAt}
 use Rattle.rows.proofs.Outcomes.{Holds, refusal, value, holds-map, holds-bind, holds-cond, holds-with}
-use Rattle.reading.proofs.Outcomes.{Reads, Table, Placed, next-row, placed-behind, chars-append, wrong-told, reads-done, reads-map, reads-after, reads-then}
+use Rattle.reading.proofs.Outcomes.{Reads, Table, Placed, next-row, placed-behind, chars-append, cut-told, row-told, wrong-told, reads-done, reads-map, reads-after, reads-then}
 use Rattle.reading.proofs.Runs.{figures-read}
 use Rattle.reading.proofs.ReadData.{either, punched-full, Sayable}
 use Rattle.reading.proofs.ReadWords.{Fronted, fronted, words-read}
@@ -42,20 +43,20 @@ last-after (r ∷ s) u h = before (last-after s u h)
 -- ---- an end
 
 module _ {Q : ℕ → ℕ → Type 0} {P : ℕ → Type 0} {len : ℕ} (t : Table Q P len) where
-  after-read : (e n : ℕ) → Q e len → ((p : ℕ) → P p → Q n p) → (cr : KeptRow) → cr .char ≡ 13 → P (cr .place) → (rs : List KeptRow)
-      → Holds Q (Reads (λ p s. End (chars s) × Last p s) (cr ∷ rs)) (afterCR len e n cr rs)
-  after-read e n ends at cr is h [] = refusal ends
-  after-read e n ends at cr is h (r ∷ rs) =
+  after-read : (w : Wanted) (cr : KeptRow) → cr .char ≡ 13 → P (cr .place) → (rs : List KeptRow)
+      → Holds Q (Reads (λ p s. End (chars s) × Last p s) (cr ∷ rs)) (afterCR len w cr rs)
+  after-read w cr is h [] = refusal (cut-told t w)
+  after-read w cr is h (r ∷ rs) =
       holds-cond (eqb (r .char) 10)
       (λ q. value (record { took = cr ∷ r ∷ []; split = refl; stands = (rw (is, eqb-true (r .char) 10 q) cr-lf, before (last refl)) }))
-      (λ q. refusal (at (cr .place) h))
+      (λ q. refusal (row-told t w (cr .place) h))
 
-  pub ended-read : (e n : ℕ) → Q e len → ((p : ℕ) → P p → Q n p) → (rs : List KeptRow) → Placed P rs → Holds Q (Reads (λ p s. End (chars s) × Last p s) rs) (ended len e n rs)
-  ended-read e n ends at [] all = refusal ends
-  ended-read e n ends at (r ∷ rs) (next-row h all) =
+  pub ended-read : (w : Wanted) (rs : List KeptRow) → Placed P rs → Holds Q (Reads (λ p s. End (chars s) × Last p s) rs) (ended len w rs)
+  ended-read w [] all = refusal (cut-told t w)
+  ended-read w (r ∷ rs) (next-row h all) =
       holds-cond (eqb (r .char) 10)
       (λ q. value (record { took = r ∷ []; split = refl; stands = (rw (eqb-true (r .char) 10 q) lf, last refl) }))
-      (λ q. holds-cond (eqb (r .char) 13) (λ is. after-read e n ends at r (eqb-true (r .char) 13 is) h rs) (λ other. refusal (at (r .place) h)))
+      (λ q. holds-cond (eqb (r .char) 13) (λ is. after-read w r (eqb-true (r .char) 13 is) h rs) (λ other. refusal (row-told t w (r .place) h)))
 
 -- ---- a block
 
@@ -82,13 +83,12 @@ module _ {Q : ℕ → ℕ → Type 0} {P : ℕ → Type 0} {len : ℕ} (t : Tabl
   number-read : (skip : Bool) (rs : List KeptRow) → Placed P rs
       → Holds Q (Reads (λ b s. (b .skip ≡ skip) × (b .sequence < 10 ^ d) × (chars s ≡ sequenceRows d (b .alignment) (b .sequence))) rs) (numberAt len d skip rs)
   number-read skip rs all =
-      let nine = t .at-row 9 (lit≤ tt) (lit≤ tt) in
       holds-cond (fronts 78 rs || fronts 58 rs)
       (λ e. let l = lead rs all e in
       reads-after (l .row ∷ []) (l .split)
-      (reads-then (l .after) (figures-read t 9 nine Nothing d (behind rs) (l .after)) λ v ds all₁ p.
+      (reads-then (l .after) (figures-read t Wanted.Start Nothing d (behind rs) (l .after)) λ v ds all₁ p.
       let full = punched-full p in reads-done (refl, full .0, rw (append-nil ds, l .is, full .1))))
-      (λ e. wrong-told len 14 9 (t .cut) nine rs all)
+      (λ e. wrong-told t Wanted.Start rs all)
 
   pub start-read : (rs : List KeptRow) → Placed P rs → Holds Q (Reads (StartRows d) rs) (startAt len d rs)
   unfolding startAt
@@ -108,7 +108,7 @@ module _ {Q : ℕ → ℕ → Type 0} {P : ℕ → Type 0} {len : ℕ} (t : Tabl
   block-read rs all =
       reads-then all (start-read t (f .sequence) rs all) λ b r all₁ p.
       reads-then all₁ (words-read t (f .dots) (itemsOf f) says (b .rest) all₁) λ ws u all₂ h.
-      reads-then all₂ (ended-read t 14 10 (t .cut) (t .at-row 10 (lit≤ tt) (lit≤ tt)) (ws .rest) all₂) λ x s all₃ z.
+      reads-then all₂ (ended-read t Wanted.End (ws .rest) all₂) λ x s all₃ z.
       reads-done (
         rw (append-nil s, chars-append r (u ++ s), chars-append u s, p .1, append-assoc (skipRows (b .value .skip)) _ (chars u ++ chars s))
             (block (b .value .skip) (b .value .alignment) (p .0) h (z .0)),
@@ -127,12 +127,11 @@ pub record HeadRows (p : ℕ) (s : List KeptRow) : Type 0 where
 pub head-read : {Q : ℕ → ℕ → Type 0} {P : ℕ → Type 0} {len : ℕ} → Table Q P len → (rs : List KeptRow) → Placed P rs → Holds Q (Reads HeadRows rs) (headAt len rs)
 unfolding headAt
 head-read {len = len} t rs all =
-    let eight = t .at-row 8 (lit≤ tt) (lit≤ tt) in
     holds-cond (fronts 37 rs)
     (λ e. let s = fronted 37 rs all e in
     reads-after (s .row ∷ []) (s .split)
-    (reads-map (λ p r h. record { mark = chars r; rows = rw (s .is); ends = h .0; to = before (h .1) }) (ended-read t 8 8 (t .no-head) eight (behind rs) (s .after))))
-    (λ e. wrong-told len 8 8 (t .no-head) eight rs all)
+    (reads-map (λ p r h. record { mark = chars r; rows = rw (s .is); ends = h .0; to = before (h .1) }) (ended-read t Wanted.Head (behind rs) (s .after))))
+    (λ e. wrong-told t Wanted.Head rs all)
 
 -- the blocks of a tape one after the other, each from the place after the LF before it to its own
 pub data Entries (f : Format) : ℕ → List Entry → List KeptRow → Type 0 where

@@ -16,6 +16,7 @@ use Rattle.shorthand.specs.declared.Kind.the-variants.{Plain}
 use Rattle.shorthand.specs.Layout.{Sign, barred, required, optional, signOf, width}
 use Rattle.reading.specs.Relation.{digits, Punched, in-full, Signed, never, plus, minus, plus-stands, minus-stands, plus-missing, Data, number, speed, dimension, chars}
 use Rattle.words.specs.Figures.{isSign, mayStand, mayMiss, signed}
+use Rattle.words.specs.declared.Wanted.{Wanted}
 use Rattle.words.specs.Data.{missingOf, signedValue, spoken, meant, dataAt}
 use Rattle.rows.proofs.Outcomes.{Holds, refusal, value, holds-bind, holds-cond}
 use Rattle.reading.proofs.Outcomes.{Reads, Table, Placed, next-row, chars-append, reads-done, reads-then}
@@ -91,5 +92,5 @@ module _ {Q : ℕ → ℕ → Type 0} {P : ℕ → Type 0} {len : ℕ} (t : Tabl
   unfolding dataAt
   data-read a ha k says rs all =
       reads-then all (signed-read (signOf k) rs all) λ s r all₁ h.
-      reads-then all₁ (figures-read t 11 (t .at-row 11 (lit≤ tt) (lit≤ tt)) (missingOf k) (width k) (s .rest) all₁) λ m ds all₂ p.
+      reads-then all₁ (figures-read t Wanted.Digits (missingOf k) (width k) (s .rest) all₁) λ m ds all₂ p.
       holds-bind (meant-told a ha k says (s .value) (m .value) h p) λ x d. reads-done (rw (append-nil, chars-append) d)

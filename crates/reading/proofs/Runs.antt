@@ -14,6 +14,7 @@ use Rattle.rows.specs.Kept.{KeptRow}
 use Rattle.shorthand.specs.declared.Missing.{Missing}
 use Rattle.shorthand.specs.declared.Missing.the-variants.{Nothing, Leading, Trailing}
 use Rattle.reading.specs.Relation.{digits, zeros, Punched, in-full, front, back, chars}
+use Rattle.words.specs.declared.Wanted.{Wanted}
 use Rattle.words.specs.Figures.{Run, run, isDigit, digitNext, fewest, restored, figures}
 use Rattle.rows.proofs.Outcomes.{Holds, value, holds-cond}
 use Rattle.reading.proofs.Outcomes.{Reads, Table, Placed, placed-behind, wrong-told}
@@ -145,14 +146,14 @@ module _ {n : ℕ} {rs : List KeptRow} {q : Run} (h : Ran n 0 0 rs q) where
   ran-punched Trailing l = back (n - q .count) fits-behind behind-it (stand l)
 
 module _ {Q : ℕ → ℕ → Type 0} {P : ℕ → Type 0} {len : ℕ} (t : Table Q P len) where
-  pub figures-read : (x : ℕ) → ((p : ℕ) → P p → Q x p) → (z : Missing) (n : ℕ) (rs : List KeptRow) → Placed P rs
-      → Holds Q (Reads (λ v s. Punched n v z (chars s)) rs) (figures len x z n rs)
+  pub figures-read : (w : Wanted) (z : Missing) (n : ℕ) (rs : List KeptRow) → Placed P rs
+      → Holds Q (Reads (λ v s. Punched n v z (chars s)) rs) (figures len w z n rs)
   unfolding figures
-  figures-read x at z n rs all =
+  figures-read w z n rs all =
       let q = run n 0 0 rs in
       let h = run-ran n 0 0 rs in
       let enough = leb (fewest z n) (q .count) in
       let no-more = not (digitNext (q .rest)) in
       holds-cond (enough && no-more)
       (λ e. value (record { took = h .took; split = h .split; stands = ran-punched h z (leb-true (fewest z n) (q .count) (and-eq-true-iff enough no-more .0 e .0)) }))
-      (λ e. wrong-told len 14 x (t .cut) at (q .rest) (placed-behind (h .took) (h .split) all))
+      (λ e. wrong-told t w (q .rest) (placed-behind (h .took) (h .split) all))

@@ -14,6 +14,7 @@ use Rattle.shorthand.specs.declared.Item.{Item}
 use Rattle.shorthand.specs.declared.Format.{Format}
 use Rattle.shorthand.specs.Layout.{itemsOf}
 use Rattle.reading.specs.Relation.{Worded, End, Blocks, none, more, Program, program, chars}
+use Rattle.words.specs.declared.Wanted.{Wanted}
 use Rattle.words.specs.Figures.{Behind, fronts}
 use Rattle.parts.specs.Ends.{closeAt}
 use Rattle.words.specs.Data.{wordAt}
@@ -81,7 +82,7 @@ module _ (len : ℕ) (rs : List KeptRow) where
   word-rows it x f e = of-taken (word-read any-table it (any-kind (it .kind)) rs (any-rows rs) f) e
 
   pub end-rows : (x : Behind ℕ) → closeAt len rs ≡ taken x → Reads (λ p s. End (chars s) × Last p s) rs x
-  end-rows x e = of-taken (ended-read any-table 14 10 tt (λ p a. tt) rs (any-rows rs)) e
+  end-rows x e = of-taken (ended-read any-table Wanted.End rs (any-rows rs)) e
 
 -- ---- soundness
 

@@ -23,6 +23,7 @@ use Rattle.shorthand.specs.Facts.{Widths}
 use Rattle.words.specs.declared.Value.{Value}
 use Rattle.words.specs.declared.Word.{Word}
 use Rattle.reading.specs.Relation.{digits, Punched, in-full, front, back, Signed, never, plus, minus, plus-stands, minus-stands, plus-missing, Data, number, speed, dimension, Worded, word, chars}
+use Rattle.words.specs.declared.Wanted.{Wanted}
 use Rattle.words.specs.Figures.{behind, frontPlace, isDigit, restored, fewest, figures, isSign, mayStand, mayMiss, signed}
 use Rattle.words.specs.Data.{missingOf, signedValue, meant, dataAt, wordAt}
 use Rattle.reading.proofs.DigitRows.{Digit, worth, digits-length, digits-digit, digits-worth, leading-worth, leading-length, leading-digit, trailing-worth, trailing-length, trailing-digit}
@@ -58,7 +59,7 @@ reads {n} {v} {ds = ds} (back j h e some) =
       value = λ rest. trailing-worth n v j ds h e;
     }
 
-pub figures-take : (len x n v : ℕ) (z : Missing) (ds u : List ℕ) (rs : List KeptRow) → Reads z n v ds → chars rs ≡ ds ++ u → heads isDigit u ≡ false → Takes (figures len x z n rs) v u
+pub figures-take : (len : ℕ) (x : Wanted) (n v : ℕ) (z : Missing) (ds u : List ℕ) (rs : List KeptRow) → Reads z n v ds → chars rs ≡ ds ++ u → heads isDigit u ≡ false → Takes (figures len x z n rs) v u
 unfolding figures
 figures-take len x n v z ds u rs p e h =
     let q = run-takes n 0 0 ds u rs (p .digit) (p .most) e h in
@@ -122,7 +123,7 @@ unfolding dataAt
 parts-take len a m k {ds = ds} g p w means rs u e h =
     let some : 1 ≤ length ds = omega (arith, p .least, fewest-some (missingOf k) (width k) w) in
     let b = signed-takes g len rs (ds ++ u) e (omega (arith, length-append ds u)) (no-sign ds u (p .digit) some) in
-    let q = figures-take len 11 (width k) m (missingOf k) ds u (b .1 .rest) p (b .1 .leaves) h in
+    let q = figures-take len Wanted.Digits (width k) m (missingOf k) ds u (b .1 .rest) p (b .1 .leaves) h in
     record { rest = q .rest; takes = rw (b .1 .takes, q .takes, means (b .0) (b .2)); leaves = q .leaves }
 
 data-takes : {k : Kind} {x : Value} {d : List ℕ} → Data k x d → Widths k → (len a : ℕ) (rs : List KeptRow) (u : List ℕ) → chars rs ≡ d ++ u → heads isDigit u ≡ false → Takes (dataAt len a k rs) x u

@@ -17,8 +17,6 @@ use parts::EndFound;
 use parts::Reach;
 use parts::Rules;
 use parts::StartRead;
-use parts::ends::CUT;
-use parts::ends::NO_END;
 use parts::ends::find_end;
 use parts::items::due_item;
 use parts::items::reach_item;
@@ -120,7 +118,7 @@ fn close_block(tape: &[u8], cursor: Cursor) -> Step
     ensures { λ r. ⌜ stepTold (now (tape .entry)) r ≡ closesBy (spotTold (now (tape .entry)) cursor) (closeAt (length (now (tape .entry))) (rowsAt (now (tape .entry)) (cursor .front))) ⌝ }
 {
     let front = cursor.front;
-    match find_end(tape, front, CUT, NO_END) {
+    match find_end(tape, front) {
         EndFound::At(lf, after) => Step {
             event: Event::Closed(lf),
             cursor: Cursor {

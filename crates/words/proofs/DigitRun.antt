@@ -16,6 +16,7 @@ use Rattle.shorthand.specs.declared.Missing.{Missing}
 use Rattle.shorthand.specs.declared.Missing.the-variants.{Nothing, Leading, Trailing}
 use Rattle.shorthand.proofs.Tests.{second, by-test}
 use Rattle.speeds.proofs.Tens.{ten-positive, ten-grows, ten-split}
+use Rattle.words.specs.declared.Wanted.{Wanted}
 use Rattle.words.specs.Figures.{Behind, taking, wrong, behind, isDigit, digitNext, frontDigit, Run, run, restored, fewest, figures}
 use Rattle.words.proofs.Wrong.{wrong-any}
 
@@ -85,15 +86,15 @@ restored-alone Nothing n v k rs = refl
 restored-alone Leading n v k rs = refl
 restored-alone Trailing n v k rs = refl
 
-module _ (len x : ℕ) (z : Missing) (n : ℕ) (rs : List KeptRow) (q : Run) (e : q ≡ run n 0 0 rs) where
-  pub figures-few : (r : Refusal) → refusal {A = Unit {0}} r ≡ wrong len 14 x (q .rest) → q .count < fewest z n → refusal r ≡ figures len x z n rs
+module _ (len : ℕ) (x : Wanted) (z : Missing) (n : ℕ) (rs : List KeptRow) (q : Run) (e : q ≡ run n 0 0 rs) where
+  pub figures-few : (r : Refusal) → refusal {A = Unit {0}} r ≡ wrong len x (q .rest) → q .count < fewest z n → refusal r ≡ figures len x z n rs
   unfolding figures
-  figures-few r w h = rw (← e, lt-leb (fewest z n) (q .count) h) (wrong-any (Behind ℕ) r len 14 x (q .rest) w)
+  figures-few r w h = rw (← e, lt-leb (fewest z n) (q .count) h) (wrong-any (Behind ℕ) r len x (q .rest) w)
 
   module _ (enough : fewest z n ≤ q .count) where
-    pub figures-many : (r : Refusal) → refusal {A = Unit {0}} r ≡ wrong len 14 x (q .rest) → digitNext (q .rest) ≡ true → refusal r ≡ figures len x z n rs
+    pub figures-many : (r : Refusal) → refusal {A = Unit {0}} r ≡ wrong len x (q .rest) → digitNext (q .rest) ≡ true → refusal r ≡ figures len x z n rs
     unfolding figures
-    figures-many r w d = rw (← e, le-leb (fewest z n) (q .count) enough, d) (wrong-any (Behind ℕ) r len 14 x (q .rest) w)
+    figures-many r w d = rw (← e, le-leb (fewest z n) (q .count) enough, d) (wrong-any (Behind ℕ) r len x (q .rest) w)
 
     pub figures-fit : (v : ℕ) → v ≡ restored z n (record { number = q .number; count = q .count; rest = [] }) → digitNext (q .rest) ≡ false
         → taking v (q .rest) ≡ figures len x z n rs
@@ -105,13 +106,13 @@ abbrev Below : ℕ → Answer (Behind ℕ) → Type 0
 Below n (taken b) = b .value < 10 ^ n
 Below n (refused m p) = Unit
 
-wrong-below : (n len e x : ℕ) (rs : List KeptRow) → Below n (wrong len e x rs)
-wrong-below n len e x [] = tt
-wrong-below n len e x (r ∷ rs) = tt
+wrong-below : (n len : ℕ) (x : Wanted) (rs : List KeptRow) → Below n (wrong len x rs)
+wrong-below n len x [] = tt
+wrong-below n len x (r ∷ rs) = tt
 
-pub figures-below : (len x : ℕ) (z : Missing) (n : ℕ) (rs : List KeptRow) (v : ℕ) (rest : List KeptRow) → figures len x z n rs ≡ taking v rest → v < 10 ^ n
+pub figures-below : (len : ℕ) (x : Wanted) (z : Missing) (n : ℕ) (rs : List KeptRow) (v : ℕ) (rest : List KeptRow) → figures len x z n rs ≡ taking v rest → v < 10 ^ n
 unfolding figures
 figures-below len x z n rs v rest e =
     let q = run n 0 0 rs in
     subst (Below n) e
-    (by-test (Below n) (leb (fewest z n) (q .count) && not (digitNext (q .rest))) (λ t. restored-below z n q (read-bounded n rs q refl)) (λ t. wrong-below n len 14 x (q .rest)))
+    (by-test (Below n) (leb (fewest z n) (q .count) && not (digitNext (q .rest))) (λ t. restored-below z n q (read-bounded n rs q refl)) (λ t. wrong-below n len x (q .rest)))

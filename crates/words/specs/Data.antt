@@ -15,6 +15,7 @@ use Rattle.shorthand.specs.Layout.{width, signOf}
 use Rattle.words.specs.declared.Value.{Value}
 use Rattle.words.specs.declared.Value.the-variants.{Number}
 use Rattle.words.specs.declared.Word.{Word}
+use Rattle.words.specs.declared.Wanted.{Wanted}
 use Rattle.words.specs.Figures.{Behind, taking, behind, frontPlace, figures, signed}
 
 abbrev pub missingOf : Kind → Missing
@@ -41,7 +42,7 @@ meant a (Kind.Dimension d) minus m = taken (Value.Dimension (signedValue minus m
 -- the data behind an address at row a: the sign (12), the digits (11), and then 13
 unfoldable pub dataAt : ℕ → ℕ → Kind → List KeptRow → Answer (Behind Value)
 dataAt len a k rs =
-    signed len (signOf k) rs >>= λ s. figures len 11 (missingOf k) (width k) (s .rest) >>= λ m. meant a k (s .value) (m .value) >>= λ x. taking x (m .rest)
+    signed len (signOf k) rs >>= λ s. figures len Wanted.Digits (missingOf k) (width k) (s .rest) >>= λ m. meant a k (s .value) (m .value) >>= λ x. taking x (m .rest)
 
 -- the word of an item whose address stands at the front
 abbrev pub wordAt : ℕ → Item → List KeptRow → Answer (Behind Word)

@@ -8,6 +8,7 @@ use Rattle.rows.specs.Kept.{KeptRow}
 use Rattle.shorthand.specs.declared.Missing.{Missing}
 use Rattle.shorthand.specs.declared.Missing.the-variants.{Nothing, Leading, Trailing}
 use Rattle.shorthand.specs.Layout.{Sign, barred, required, optional}
+use Rattle.words.specs.declared.Wanted.{Wanted}
 
 -- what a parser takes and the kept rows behind it
 pub record Behind (A : Type 0) : Type 0 where
@@ -17,10 +18,24 @@ pub record Behind (A : Type 0) : Type 0 where
 abbrev pub taking : {A : Type 0} → A → List KeptRow → Answer (Behind A)
 taking a rs = taken (record { value = a; rest = rs })
 
--- the row found at the front is refused by n; where the tape has ended, its length by e
-abbrev pub wrong : {A : Type 0} → ℕ → ℕ → ℕ → List KeptRow → Answer A
-wrong len e n [] = refused e len
-wrong len e n (r ∷ rs) = refused n (r .place)
+-- the refusal where another row stands: 8 no "%" and an end, 9 no N or ":" or a wrong count of its digits, 10 no word, tab or end, 11 a wrong count of digits in a word
+abbrev pub wrongBy : Wanted → ℕ
+wrongBy Wanted.Head = 8
+wrongBy Wanted.Start = 9
+wrongBy Wanted.End = 10
+wrongBy Wanted.Digits = 11
+
+-- the refusal where the tape has ended: 8 within the head, 14 inside a block
+abbrev pub cutBy : Wanted → ℕ
+cutBy Wanted.Head = 8
+cutBy Wanted.Start = 14
+cutBy Wanted.End = 14
+cutBy Wanted.Digits = 14
+
+-- what is wanted is not there: refused at the row found at the front, or at the length where the tape has ended
+abbrev pub wrong : {A : Type 0} → ℕ → Wanted → List KeptRow → Answer A
+wrong len w [] = refused (cutBy w) len
+wrong len w (r ∷ rs) = refused (wrongBy w) (r .place)
 
 abbrev pub fronts : ℕ → List KeptRow → Bool
 fronts c [] = false
@@ -70,11 +85,11 @@ fewest Nothing n = n
 fewest Leading n = 1
 fewest Trailing n = 1
 
--- the digits of a number of n; too few or one too many is refused by x at the first wrong row
-unfoldable pub figures : ℕ → ℕ → Missing → ℕ → List KeptRow → Answer (Behind ℕ)
-figures len x z n rs =
+-- the digits of a number of n, a block's or a word's as is wanted; too few or one too many is refused at the first wrong row
+unfoldable pub figures : ℕ → Wanted → Missing → ℕ → List KeptRow → Answer (Behind ℕ)
+figures len w z n rs =
     let q = run n 0 0 rs in
-    cond (leb (fewest z n) (q .count) && not (digitNext (q .rest))) (taking (restored z n q) (q .rest)) (wrong len 14 x (q .rest))
+    cond (leb (fewest z n) (q .count) && not (digitNext (q .rest))) (taking (restored z n q) (q .rest)) (wrong len w (q .rest))
 
 -- ---- the sign right after an address
 

@@ -18,6 +18,7 @@ use Rattle.words.specs.declared.SignRead.{SignRead}
 use Rattle.words.specs.declared.Meant.{Meant}
 use Rattle.words.specs.declared.DataRead.{DataRead}
 use Rattle.words.specs.declared.WordRead.{WordRead}
+use Rattle.words.specs.declared.Wanted.{Wanted}
 use Rattle.words.specs.Figures.{Behind, taking, isDigit, isSign, Run, figures, mayStand, mayMiss}
 use Rattle.words.specs.Data.{missingOf, meant}
 
@@ -59,7 +60,7 @@ meantTold (Meant.Refused r) = refusal r
 -- the part of a word's data behind the sign
 abbrev pub magnitudeAt : ℕ → ℕ → Kind → Bool → List KeptRow → Answer (Behind Value)
 magnitudeAt len a k minus rs =
-    figures len 11 (missingOf k) (width k) rs >>= λ m. meant a k minus (m .value) >>= λ x. taking x (m .rest)
+    figures len Wanted.Digits (missingOf k) (width k) rs >>= λ m. meant a k minus (m .value) >>= λ x. taking x (m .rest)
 
 abbrev pub dataTold : List ℕ → DataRead → Answer (Behind Value)
 dataTold t (DataRead.Is x front) = taking x (rowsAt t front)

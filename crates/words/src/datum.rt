@@ -16,6 +16,7 @@ use crate::Meant;
 use crate::Shape;
 use crate::SignRead;
 use crate::Value;
+use crate::Wanted;
 use crate::Word;
 use crate::WordRead;
 use crate::figures::read_figures;
@@ -163,7 +164,7 @@ fn read_magnitude(
     ensures { λ r. ⌜ dataTold (now (tape .entry)) r ≡ magnitudeAt (length (now (tape .entry))) at kind minus (rowsAt (now (tape .entry)) front) ⌝ }
 {
     let missing = shape.missing;
-    match read_figures(tape, front, 11, missing, shape.digits) {
+    match read_figures(tape, front, Wanted::Digits, missing, shape.digits) {
         FiguresRead::Number(m, rest) => match mean(at, kind, minus, m) {
             Meant::Is(x) => DataRead::Is(x, rest),
             Meant::Refused(r) => DataRead::Refused(r),

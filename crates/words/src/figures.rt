@@ -5,22 +5,47 @@ ghost use lib.ListN.{length};
 ghost use mathlib.Core.List.{[]};
 ghost use Rattle.rows.specs.Answer.{refusal};
 ghost use Rattle.rows.specs.Kept.{keptAt};
-ghost use Rattle.words.specs.Figures.{wrong, run, fewest, restored, figures};
+ghost use Rattle.words.specs.Figures.{wrongBy, cutBy, wrong, run, fewest, restored, figures};
 ghost use Rattle.words.specs.Front.{rowsAt, digitFront, digitsTold, figuresTold};
 use crate::Digits;
 use crate::FiguresRead;
 use crate::Stretch;
+use crate::Wanted;
 use rows::Next;
 use rows::Refusal;
 use shorthand::Missing;
 
+// The refusal's number where another row stands there.
+pub fn wrong_number(wanted: Wanted) -> u32
+    ensures { λ r. ⌜ r ≡ wrongBy wanted ⌝ }
+{
+    match wanted {
+        Wanted::Head => 8,
+        Wanted::Start => 9,
+        Wanted::End => 10,
+        Wanted::Digits => 11,
+    }
+}
+
+// The refusal's number where the tape has ended.
+fn cut_number(wanted: Wanted) -> u32
+    ensures { λ r. ⌜ r ≡ cutBy wanted ⌝ }
+{
+    match wanted {
+        Wanted::Head => 8,
+        Wanted::Start => 14,
+        Wanted::End => 14,
+        Wanted::Digits => 14,
+    }
+}
+
 // The row found at the front, or the end of the tape, refused.
-pub fn refuse_front(tape: &[u8], front: Next, short: u32, other: u32) -> Refusal
-    ensures { λ r. ⌜ refusal {A = Unit {0}} r ≡ wrong (length (now (tape .entry))) short other (rowsAt (now (tape .entry)) front) ⌝ }
+pub fn refuse_front(tape: &[u8], front: Next, wanted: Wanted) -> Refusal
+    ensures { λ r. ⌜ refusal {A = Unit {0}} r ≡ wrong (length (now (tape .entry))) wanted (rowsAt (now (tape .entry)) front) ⌝ }
 {
     match front {
         Next::End => Refusal {
-            number: short,
+            number: cut_number(wanted),
             place: tape.len(),
         },
         Next::Row {
@@ -28,7 +53,7 @@ pub fn refuse_front(tape: &[u8], front: Next, short: u32, other: u32) -> Refusal
             place,
             after: _,
         } => Refusal {
-            number: other,
+            number: wrong_number(wanted),
             place,
         },
     }
@@ -159,20 +184,20 @@ fn restore(missing: Missing, n: usize, number: u64, count: usize) -> u64
 pub(crate) fn read_figures(
     tape: &[u8],
     front: Next,
-    other: u32,
+    wanted: Wanted,
     missing: Missing,
     n: usize,
 ) -> FiguresRead
     requires { ⌜ n ≤ 18 ⌝ }
-    ensures { λ r. ⌜ figuresTold (now (tape .entry)) r ≡ figures (length (now (tape .entry))) other missing n (rowsAt (now (tape .entry)) front) ⌝ }
+    ensures { λ r. ⌜ figuresTold (now (tape .entry)) r ≡ figures (length (now (tape .entry))) wanted missing n (rowsAt (now (tape .entry)) front) ⌝ }
 {
     let q = read_digits(tape, front, n);
     let rest = q.front;
     if q.count < fewest_of(missing, n) {
-        return FiguresRead::Refused(refuse_front(tape, rest, 14, other));
+        return FiguresRead::Refused(refuse_front(tape, rest, wanted));
     }
     if is_digit_next(rest) {
-        return FiguresRead::Refused(refuse_front(tape, rest, 14, other));
+        return FiguresRead::Refused(refuse_front(tape, rest, wanted));
     }
     FiguresRead::Number(restore(missing, n, q.number, q.count), rest)
 }

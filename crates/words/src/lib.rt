@@ -26,6 +26,14 @@ pub struct Shape {
     pub digits: usize,
 }
 
+// What has to stand at the front of the rows: "%" and an end, a block's start up to the digits of its number, a block's end, the digits of a word.
+pub enum Wanted {
+    Head,
+    Start,
+    End,
+    Digits,
+}
+
 // ---- what the parsers answer: a value with the next kept row, or a refusal
 
 pub struct Digits {

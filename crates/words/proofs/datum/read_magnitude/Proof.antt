@@ -5,6 +5,7 @@ use lib.ListN.{length}
 use denote.Ref.{now}
 use Rattle.speeds.proofs.Tens.{ten-grows}
 use Rattle.shorthand.specs.Layout.{width}
+use Rattle.words.specs.declared.Wanted.{Wanted}
 use Rattle.words.specs.Figures.{figures}
 use Rattle.words.specs.Front.{rowsAt, figuresTold, meantTold}
 use Rattle.words.specs.Data.{missingOf}
@@ -16,7 +17,7 @@ use Rattle.words.proofs.datum.read_magnitude.Tie as tie
 
 figures-are : (c : tie.After-read-figures) →
     let args = c .before .before .args in
-    figures (length (now (args .tape))) 11 (missingOf (args .kind)) (width (args .kind)) (rowsAt (now (args .tape)) (args .front)) ≡ figuresTold (now (args .tape)) (c .read-figures .result)
+    figures (length (now (args .tape))) Wanted.Digits (missingOf (args .kind)) (width (args .kind)) (rowsAt (now (args .tape)) (args .front)) ≡ figuresTold (now (args .tape)) (c .read-figures .result)
 figures-are c = rw (← ap (λ x. x .missing) (c .before .before .pre .1), ← ap (λ x. x .digits) (c .before .before .pre .1)) (sym (c .read-figures .ensures))
 
 read-figures-requires : tie.Need-read-figures-requires
