@@ -13,13 +13,11 @@ use Rattle.rows.specs.Passes.{Every}
 use Rattle.shorthand.specs.declared.Kind.{Kind}
 use Rattle.shorthand.specs.declared.Item.{Item}
 use Rattle.shorthand.specs.declared.Format.{Format}
-use Rattle.shorthand.specs.Layout.{barred, signOf, width, itemsOf}
+use Rattle.shorthand.specs.Layout.{itemsOf, width, missingOf, fewest, barred, signOf}
 use Rattle.shorthand.specs.Edition.{letters}
 use Rattle.shorthand.specs.Facts.{Facts}
 use Rattle.reading.specs.declared.Block.{Block}
 use Rattle.reading.specs.Relation.{Signed, End, lf, cr-lf, skipRows, Program, program, chars}
-use Rattle.words.specs.Figures.{fewest}
-use Rattle.words.specs.Data.{missingOf}
 use Rattle.reading.proofs.WordsTake.{fails}
 use Rattle.reading.proofs.ReadData.{barred-none}
 use Rattle.places.specs.Begins.{Digit, Begins, Closes}

@@ -13,8 +13,9 @@ use Rattle.rows.specs.Passes.{Every}
 use Rattle.rows.proofs.Every.{every-append}
 use Rattle.shorthand.specs.declared.Missing.{Missing}
 use Rattle.shorthand.specs.declared.Missing.the-variants.{Nothing, Leading, Trailing}
+use Rattle.shorthand.specs.Layout.{fewest}
 use Rattle.reading.specs.Relation.{digits, zeros, Punched, in-full, front, back}
-use Rattle.words.specs.Figures.{isDigit, fewest}
+use Rattle.words.specs.Figures.{isDigit}
 use Rattle.reading.proofs.Runs.{digits-front}
 use Rattle.reading.proofs.RowsAhead.{is-digit}
 use Rattle.places.specs.Begins.{Digit}

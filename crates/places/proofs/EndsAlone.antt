@@ -11,12 +11,10 @@ use lib.IntN.{ℤ}
 use Rattle.rows.specs.Passes.{Every}
 use Rattle.shorthand.specs.declared.Item.{Item}
 use Rattle.shorthand.specs.declared.Format.{Format}
-use Rattle.shorthand.specs.Layout.{signOf, width, itemsOf}
+use Rattle.shorthand.specs.Layout.{itemsOf, width, missingOf, fewest, signOf}
 use Rattle.shorthand.specs.Facts.{Facts}
 use Rattle.reading.specs.declared.Block.{Block}
 use Rattle.reading.specs.Relation.{digits, Signed, End, lf, cr-lf, skipRows, Blocks, Program, program}
-use Rattle.words.specs.Figures.{fewest}
-use Rattle.words.specs.Data.{missingOf}
 use Rattle.reading.proofs.BlockTakes.{block-some}
 use Rattle.places.specs.Begins.{Digit, Closes}
 use Rattle.places.specs.Faults.{numberRows, Miscounted, too-few, too-many, lastOf}

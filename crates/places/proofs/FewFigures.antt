@@ -8,11 +8,9 @@ use lib.ListN.{length}
 use lib.IntN.{ℤ, pos}
 use Rattle.rows.specs.Passes.{Every}
 use Rattle.shorthand.specs.declared.Kind.{Kind}
-use Rattle.shorthand.specs.Layout.{Sign, signOf, width}
+use Rattle.shorthand.specs.Layout.{width, missingOf, fewest, Sign, signOf}
 use Rattle.words.specs.declared.Value.{Value}
 use Rattle.reading.specs.Relation.{digits, Signed, never, plus, minus, Data, speed, dimension}
-use Rattle.words.specs.Figures.{fewest}
-use Rattle.words.specs.Data.{missingOf}
 use Rattle.reading.proofs.DigitRows.{digits-length, digits-digit}
 use Rattle.reading.proofs.WordTakes.{reads, speed-small}
 use Rattle.places.specs.Begins.{Digit}

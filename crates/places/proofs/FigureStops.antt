@@ -14,9 +14,10 @@ use Rattle.rows.specs.Kept.{KeptRow}
 use Rattle.rows.specs.Passes.{Every}
 use Rattle.shorthand.specs.declared.Missing.{Missing}
 use Rattle.shorthand.specs.declared.Missing.the-variants.{Nothing, Leading, Trailing}
+use Rattle.shorthand.specs.Layout.{fewest}
 use Rattle.reading.specs.Relation.{chars}
 use Rattle.words.specs.declared.Wanted.{Wanted}
-use Rattle.words.specs.Figures.{taking, wrongBy, cutBy, wrong, fronts, isDigit, digitNext, isSign, Run, run, restored, fewest, figures}
+use Rattle.words.specs.Figures.{taking, wrongBy, cutBy, wrong, fronts, isDigit, digitNext, isSign, Run, run, restored, figures}
 use Rattle.reading.proofs.DigitRows.{worth}
 use Rattle.reading.proofs.RowsAhead.{is-digit}
 use Rattle.places.specs.Begins.{Digit}

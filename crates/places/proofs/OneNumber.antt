@@ -10,13 +10,11 @@ use lib.IntN.{ℤ}
 use Rattle.rows.specs.Passes.{Every}
 use Rattle.shorthand.specs.declared.Item.{Item}
 use Rattle.shorthand.specs.declared.Format.{Format}
-use Rattle.shorthand.specs.Layout.{Sign, signOf, width, itemsOf}
+use Rattle.shorthand.specs.Layout.{itemsOf, width, missingOf, fewest, Sign, signOf}
 use Rattle.shorthand.specs.Edition.{letters}
 use Rattle.shorthand.specs.Facts.{Facts}
 use Rattle.reading.specs.declared.Block.{Block}
 use Rattle.reading.specs.Relation.{Signed, plus, minus, skipRows, block, Program}
-use Rattle.words.specs.Figures.{fewest}
-use Rattle.words.specs.Data.{missingOf}
 use Rattle.reading.proofs.WordsTake.{fails}
 use Rattle.places.specs.Begins.{Digit, Closes}
 use Rattle.places.specs.Faults.{numberRows, Miscounted, SignRow, SignFault, EndDue, lastOf, Misfit}

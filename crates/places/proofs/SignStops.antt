@@ -11,11 +11,10 @@ use lib.Dec.{eqb}
 use Rattle.rows.specs.Answer.{Answer, refused, _>>=_}
 use Rattle.rows.specs.Kept.{KeptRow}
 use Rattle.shorthand.specs.declared.Kind.{Kind}
-use Rattle.shorthand.specs.Layout.{Sign, barred, required, optional, signOf, width}
+use Rattle.shorthand.specs.Layout.{width, missingOf, Sign, barred, required, optional, signOf}
 use Rattle.reading.specs.Relation.{Signed, chars}
 use Rattle.words.specs.declared.Wanted.{Wanted}
 use Rattle.words.specs.Figures.{Behind, taking, isSign, mayStand, mayMiss, figures, signed}
-use Rattle.words.specs.Data.{missingOf}
 use Rattle.reading.proofs.ReadData.{SignRows, sign-stands, sign-missing, sign-is}
 use Rattle.reading.proofs.RowsAhead.{digit-no-sign}
 use Rattle.words.proofs.Signs.{sign}

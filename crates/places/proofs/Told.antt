@@ -12,12 +12,10 @@ use Rattle.speeds.specs.Meaning.{secondZero}
 use Rattle.shorthand.specs.declared.Kind.{Kind}
 use Rattle.shorthand.specs.declared.Item.{Item}
 use Rattle.shorthand.specs.declared.Format.{Format}
-use Rattle.shorthand.specs.Layout.{width, itemsOf}
+use Rattle.shorthand.specs.Layout.{itemsOf, width, missingOf, fewest}
 use Rattle.shorthand.specs.Facts.{Widths, none, Facts}
 use Rattle.reading.specs.declared.Block.{Block}
 use Rattle.reading.specs.Relation.{digits, word, End, lf, cr-lf, skipRows, Blocks, Program, program}
-use Rattle.words.specs.Figures.{fewest}
-use Rattle.words.specs.Data.{missingOf}
 use Rattle.words.proofs.Signs.{sign}
 use Rattle.places.specs.Begins.{Digit, Begins, Due}
 use Rattle.places.specs.Faults as faults

@@ -15,14 +15,14 @@ use Rattle.shorthand.specs.declared.Missing.the-variants.{Nothing}
 use Rattle.shorthand.specs.declared.Kind.{Kind}
 use Rattle.shorthand.specs.declared.Kind.the-variants.{Plain}
 use Rattle.shorthand.specs.declared.Item.{Item}
-use Rattle.shorthand.specs.Layout.{signOf, width}
+use Rattle.shorthand.specs.Layout.{width, missingOf, signOf}
 use Rattle.shorthand.specs.Facts.{Widths}
 use Rattle.words.specs.declared.Value.{Value}
 use Rattle.words.specs.declared.Word.{Word}
 use Rattle.reading.specs.Relation.{digits, Data, number, speed, dimension, Worded, word, chars}
 use Rattle.words.specs.declared.Wanted.{Wanted}
 use Rattle.words.specs.Figures.{Behind, taking, wrong, digitNext, figures, signed}
-use Rattle.words.specs.Data.{missingOf, spoken, meant, dataAt, wordAt}
+use Rattle.words.specs.Data.{spoken, meant, dataAt, wordAt}
 use Rattle.reading.proofs.ReadData.{barred-none}
 use Rattle.reading.proofs.DigitRows.{worth, digits-length, digits-digit, digits-worth}
 use Rattle.reading.proofs.RowsAhead.{digit-no-sign}

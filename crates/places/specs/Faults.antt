@@ -13,13 +13,11 @@ use Rattle.speeds.specs.Meaning.{secondZero}
 use Rattle.shorthand.specs.declared.Kind.{Kind}
 use Rattle.shorthand.specs.declared.Item.{Item}
 use Rattle.shorthand.specs.declared.Format.{Format}
-use Rattle.shorthand.specs.Layout.{Sign, barred, required, signOf, width, itemsOf}
+use Rattle.shorthand.specs.Layout.{itemsOf, width, missingOf, fewest, Sign, barred, required, signOf}
 use Rattle.shorthand.specs.Lawful.{Lawful}
 use Rattle.shorthand.specs.Spell.{spell}
 use Rattle.reading.specs.declared.Block.{Block}
 use Rattle.reading.specs.Relation.{digits, Signed, End, skipRows, Program, chars}
-use Rattle.words.specs.Figures.{fewest}
-use Rattle.words.specs.Data.{missingOf}
 use Rattle.places.specs.Begins.{Digit, Begins, Closes, Due}
 
 -- ---- one row that does not fit

@@ -13,11 +13,11 @@ use Rattle.speeds.specs.Meaning.{speedFor}
 use Rattle.shorthand.specs.declared.Missing.the-variants.{Nothing}
 use Rattle.shorthand.specs.declared.Kind.{Kind}
 use Rattle.shorthand.specs.declared.Kind.the-variants.{Plain}
-use Rattle.shorthand.specs.Layout.{Sign, barred, required, optional, signOf, width}
+use Rattle.shorthand.specs.Layout.{width, missingOf, Sign, barred, required, optional, signOf}
 use Rattle.reading.specs.Relation.{digits, Punched, in-full, Signed, never, plus, minus, plus-stands, minus-stands, plus-missing, Data, number, speed, dimension, chars}
 use Rattle.words.specs.Figures.{isSign, mayStand, mayMiss, signed}
 use Rattle.words.specs.declared.Wanted.{Wanted}
-use Rattle.words.specs.Data.{missingOf, signedValue, spoken, meant, dataAt}
+use Rattle.words.specs.Data.{signedValue, spoken, meant, dataAt}
 use Rattle.rows.proofs.Outcomes.{Holds, refusal, value, holds-bind, holds-cond}
 use Rattle.reading.proofs.Outcomes.{Reads, Table, Placed, next-row, chars-append, reads-done, reads-then}
 use Rattle.reading.proofs.Runs.{figures-read}

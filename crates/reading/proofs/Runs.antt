@@ -13,9 +13,10 @@ use borrow.Author.Tests.{leb-true}
 use Rattle.rows.specs.Kept.{KeptRow}
 use Rattle.shorthand.specs.declared.Missing.{Missing}
 use Rattle.shorthand.specs.declared.Missing.the-variants.{Nothing, Leading, Trailing}
+use Rattle.shorthand.specs.Layout.{fewest}
 use Rattle.reading.specs.Relation.{digits, zeros, Punched, in-full, front, back, chars}
 use Rattle.words.specs.declared.Wanted.{Wanted}
-use Rattle.words.specs.Figures.{Run, run, isDigit, digitNext, fewest, restored, figures}
+use Rattle.words.specs.Figures.{Run, run, isDigit, digitNext, restored, figures}
 use Rattle.rows.proofs.Outcomes.{Holds, value, holds-cond}
 use Rattle.reading.proofs.Outcomes.{Reads, Table, Placed, placed-behind, wrong-told}
 

@@ -18,14 +18,14 @@ use Rattle.shorthand.specs.declared.Missing.the-variants.{Nothing, Leading, Tra
 use Rattle.shorthand.specs.declared.Kind.{Kind}
 use Rattle.shorthand.specs.declared.Kind.the-variants.{Plain}
 use Rattle.shorthand.specs.declared.Item.{Item}
-use Rattle.shorthand.specs.Layout.{Sign, barred, required, optional, signOf, width}
+use Rattle.shorthand.specs.Layout.{width, missingOf, fewest, Sign, barred, required, optional, signOf}
 use Rattle.shorthand.specs.Facts.{Widths}
 use Rattle.words.specs.declared.Value.{Value}
 use Rattle.words.specs.declared.Word.{Word}
 use Rattle.reading.specs.Relation.{digits, Punched, in-full, front, back, Signed, never, plus, minus, plus-stands, minus-stands, plus-missing, Data, number, speed, dimension, Worded, word, chars}
 use Rattle.words.specs.declared.Wanted.{Wanted}
-use Rattle.words.specs.Figures.{behind, frontPlace, isDigit, restored, fewest, figures, isSign, mayStand, mayMiss, signed}
-use Rattle.words.specs.Data.{missingOf, signedValue, meant, dataAt, wordAt}
+use Rattle.words.specs.Figures.{behind, frontPlace, isDigit, restored, figures, isSign, mayStand, mayMiss, signed}
+use Rattle.words.specs.Data.{signedValue, meant, dataAt, wordAt}
 use Rattle.reading.proofs.DigitRows.{Digit, worth, digits-length, digits-digit, digits-worth, leading-worth, leading-length, leading-digit, trailing-worth, trailing-length, trailing-digit}
 use Rattle.reading.proofs.RowsAhead.{heads, digit-heads, behind-chars, digit-no-sign, Takes, run-takes}
 

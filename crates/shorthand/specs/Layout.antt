@@ -6,6 +6,7 @@ use lib.ListN.{length, take, replicate}
 use Rattle.shorthand.specs.declared.Mark.{Mark}
 use Rattle.shorthand.specs.declared.Mark.the-variants.{Unmarked, Plus, Delta}
 use Rattle.shorthand.specs.declared.Missing.{Missing}
+use Rattle.shorthand.specs.declared.Missing.the-variants.{Nothing, Leading, Trailing}
 use Rattle.shorthand.specs.declared.Figures.{Figures}
 use Rattle.shorthand.specs.declared.Kind.{Kind}
 use Rattle.shorthand.specs.declared.Kind.the-variants.{Plain, Speed, Dimension}
@@ -33,6 +34,18 @@ abbrev pub width : Kind → ℕ
 width (Plain n) = n
 width (Speed n) = n
 width (Dimension d) = d .before + d .after
+
+-- at which end zeros may be missing: in dimensions alone
+abbrev pub missingOf : Kind → Missing
+missingOf (Plain n) = Nothing
+missingOf (Speed n) = Nothing
+missingOf (Dimension d) = d .missing
+
+-- the fewest digits of a number of n: all of them, or where zeros may be missing at least one
+abbrev pub fewest : Missing → ℕ → ℕ
+fewest Nothing n = n
+fewest Leading n = 1
+fewest Trailing n = 1
 
 -- whether a sign may stand, and must
 pub data Sign : Type 0 where

@@ -14,10 +14,11 @@ use Rattle.rows.specs.Answer.{Answer, taken, refused, refusal}
 use Rattle.rows.specs.Kept.{KeptRow}
 use Rattle.shorthand.specs.declared.Missing.{Missing}
 use Rattle.shorthand.specs.declared.Missing.the-variants.{Nothing, Leading, Trailing}
+use Rattle.shorthand.specs.Layout.{fewest}
 use Rattle.shorthand.proofs.Tests.{second, by-test}
 use Rattle.speeds.proofs.Tens.{ten-positive, ten-grows, ten-split}
 use Rattle.words.specs.declared.Wanted.{Wanted}
-use Rattle.words.specs.Figures.{Behind, taking, wrong, behind, isDigit, digitNext, frontDigit, Run, run, restored, fewest, figures}
+use Rattle.words.specs.Figures.{Behind, taking, wrong, behind, isDigit, digitNext, frontDigit, Run, run, restored, figures}
 use Rattle.words.proofs.Wrong.{wrong-any}
 
 -- ---- one step

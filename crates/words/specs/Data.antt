@@ -6,22 +6,15 @@ use lib.IntN.{ℤ, pos, negℤ}
 use Rattle.rows.specs.Answer.{Answer, taken, refused, _>>=_}
 use Rattle.rows.specs.Kept.{KeptRow}
 use Rattle.speeds.specs.Meaning.{speedFor}
-use Rattle.shorthand.specs.declared.Missing.{Missing}
-use Rattle.shorthand.specs.declared.Missing.the-variants.{Nothing}
 use Rattle.shorthand.specs.declared.Kind.{Kind}
 use Rattle.shorthand.specs.declared.Kind.the-variants.{Plain}
 use Rattle.shorthand.specs.declared.Item.{Item}
-use Rattle.shorthand.specs.Layout.{width, signOf}
+use Rattle.shorthand.specs.Layout.{width, missingOf, signOf}
 use Rattle.words.specs.declared.Value.{Value}
 use Rattle.words.specs.declared.Value.the-variants.{Number}
 use Rattle.words.specs.declared.Word.{Word}
 use Rattle.words.specs.declared.Wanted.{Wanted}
 use Rattle.words.specs.Figures.{Behind, taking, behind, frontPlace, figures, signed}
-
-abbrev pub missingOf : Kind → Missing
-missingOf (Plain n) = Nothing
-missingOf (Kind.Speed k) = Nothing
-missingOf (Kind.Dimension d) = d .missing
 
 -- minus zero is zero
 abbrev pub signedValue : Bool → ℕ → ℤ

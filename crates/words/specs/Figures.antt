@@ -7,7 +7,7 @@ use Rattle.rows.specs.Answer.{Answer, taken, refused}
 use Rattle.rows.specs.Kept.{KeptRow}
 use Rattle.shorthand.specs.declared.Missing.{Missing}
 use Rattle.shorthand.specs.declared.Missing.the-variants.{Nothing, Leading, Trailing}
-use Rattle.shorthand.specs.Layout.{Sign, barred, required, optional}
+use Rattle.shorthand.specs.Layout.{fewest, Sign, barred, required, optional}
 use Rattle.words.specs.declared.Wanted.{Wanted}
 
 -- what a parser takes and the kept rows behind it
@@ -78,12 +78,6 @@ abbrev pub restored : Missing → ℕ → Run → ℕ
 restored Nothing n q = q .number
 restored Leading n q = q .number
 restored Trailing n q = q .number * 10 ^ (n - q .count)
-
--- all n digits, or where zeros may be missing at least one
-abbrev pub fewest : Missing → ℕ → ℕ
-fewest Nothing n = n
-fewest Leading n = 1
-fewest Trailing n = 1
 
 -- the digits of a number of n, a block's or a word's as is wanted; too few or one too many is refused at the first wrong row
 unfoldable pub figures : ℕ → Wanted → Missing → ℕ → List KeptRow → Answer (Behind ℕ)

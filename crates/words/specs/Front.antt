@@ -8,7 +8,7 @@ use Rattle.rows.specs.declared.Next.{Next}
 use Rattle.rows.specs.declared.Next.the-variants.{Row}
 use Rattle.rows.specs.declared.Refusal.{Refusal}
 use Rattle.shorthand.specs.declared.Kind.{Kind}
-use Rattle.shorthand.specs.Layout.{width, signOf}
+use Rattle.shorthand.specs.Layout.{width, missingOf, signOf}
 use Rattle.words.specs.declared.Value.{Value}
 use Rattle.words.specs.declared.Word.{Word}
 use Rattle.words.specs.declared.Shape.{Shape}
@@ -20,7 +20,7 @@ use Rattle.words.specs.declared.DataRead.{DataRead}
 use Rattle.words.specs.declared.WordRead.{WordRead}
 use Rattle.words.specs.declared.Wanted.{Wanted}
 use Rattle.words.specs.Figures.{Behind, taking, isDigit, isSign, Run, figures, mayStand, mayMiss}
-use Rattle.words.specs.Data.{missingOf, meant}
+use Rattle.words.specs.Data.{meant}
 
 -- the row that was fetched and the kept rows behind it
 abbrev pub rowsAt : List ℕ → Next → List KeptRow

@@ -4,11 +4,10 @@ use native.Mathlib.Nat.{lt-of-lt-of-le}
 use lib.ListN.{length}
 use denote.Ref.{now}
 use Rattle.speeds.proofs.Tens.{ten-grows}
-use Rattle.shorthand.specs.Layout.{width}
+use Rattle.shorthand.specs.Layout.{width, missingOf}
 use Rattle.words.specs.declared.Wanted.{Wanted}
 use Rattle.words.specs.Figures.{figures}
 use Rattle.words.specs.Front.{rowsAt, figuresTold, meantTold}
-use Rattle.words.specs.Data.{missingOf}
 use Rattle.words.proofs.DigitRun.{figures-below}
 use Rattle.words.proofs.Widths.{width-most}
 use borrow.Author.Needs.{needs}
