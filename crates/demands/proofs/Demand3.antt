@@ -17,8 +17,7 @@ use Rattle.parts.proofs.Entering.{entered-refused}
 use Rattle.reading.specs.declared.Block.{Block}
 use Rattle.reading.specs.Relation.{TapeOf}
 use Rattle.reading.specs.Parse.{Entry}
-use Rattle.reading.specs.Answers.{read, readUnder, counted, blockNumbered, rowsNumbered}
-use Rattle.reading.specs.Front.{sizeOf}
+use Rattle.reading.specs.Answers.{read, readUnder, counted, blockNumbered, rowsNumbered, sizeOf}
 use Rattle.reading.specs.Remains.{Remains, all, later}
 use Rattle.reading.proofs.Programs.{one-program}
 use Rattle.lines.specs.Listing.{most, listedUnder}

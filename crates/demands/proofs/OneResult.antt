@@ -11,7 +11,7 @@ use Rattle.speeds.specs.declared.Code.the-variants.{Number}
 use Rattle.speeds.specs.Coding.{speedTold, codeTold}
 use Rattle.reading.specs.declared.Counted.{Counted}
 use Rattle.reading.specs.declared.Counted.the-variants.{Blocks}
-use Rattle.reading.specs.Front.{countTold}
+use Rattle.reading.specs.Answers.{countTold}
 use Rattle.punching.specs.declared.Punched.{Punched}
 use Rattle.punching.specs.declared.Punched.the-variants.{Rows}
 use Rattle.punching.specs.Answers.{punchedTold}

@@ -12,8 +12,7 @@ use Rattle.bytes.specs.Bytes.{indexOf, slice}
 use Rattle.rows.specs.Answer.{Answer, taken, refused, void, _>>=_, _>>_}
 use Rattle.shorthand.specs.declared.Format.{Format}
 use Rattle.shorthand.specs.Parse.{parsed}
-use Rattle.reading.specs.Answers.{readUnder}
-use Rattle.reading.specs.Front.{sizeOf}
+use Rattle.reading.specs.Answers.{readUnder, sizeOf}
 use Rattle.lines.specs.Listing.{same, editionOf, headerEnd, noHeader, headerOf, most, listedUnder}
 
 -- ---- two texts compared, byte for byte

@@ -14,8 +14,7 @@ use Rattle.shorthand.specs.Parse.{parsed}
 use Rattle.words.specs.Figures.{taking}
 use Rattle.parts.specs.Ends.{entered}
 use Rattle.reading.specs.Parse.{Entry}
-use Rattle.reading.specs.Answers.{read}
-use Rattle.reading.specs.Front.{sizeOf}
+use Rattle.reading.specs.Answers.{read, sizeOf}
 use Rattle.reading.specs.Remains.{Remains, all}
 use Rattle.reading.proofs.Numbered.{taken-value}
 use Rattle.lines.specs.Listing.{most, listed, listedUnder}

@@ -2,7 +2,7 @@
 ghost use mathlib.Core.Path.{_≡_};
 ghost use Prim.Native.Nat.{_≤_, min};
 ghost use lib.ListN.{length};
-ghost use Rattle.reading.specs.Front.{countTold, sizeOf};
+ghost use Rattle.reading.specs.Answers.{countTold, sizeOf};
 ghost use Rattle.lines.specs.Listing.{same, editionOf, noHeader, headerOf, listedUnder};
 use crate::Header;
 use reading::Counted;

@@ -5,7 +5,7 @@ ghost use lib.ListN.{length};
 ghost use mathlib.Core.List.{List};
 ghost use Rattle.shorthand.specs.Facts.{Facts};
 ghost use Rattle.reading.specs.Parse.{Entry};
-ghost use Rattle.reading.specs.Front.{countTold, sizeOf};
+ghost use Rattle.reading.specs.Answers.{countTold, sizeOf};
 ghost use Rattle.reading.specs.Remains.{Remains};
 ghost use Rattle.lines.specs.Listing.{listedUnder};
 use libc::STDIN_FILENO;

@@ -21,8 +21,8 @@ use denote.Enum.Declared.{tagOf}
 use types.Run.{OneOf}
 use mathlib.Core.Logic.{⊎-elim}
 use Rattle.reading.specs.Parse.{Entry, blocksAt}
-use Rattle.reading.specs.Answers.{nowhere}
-use Rattle.reading.specs.Front.{sizeOf, partOf, partIn, Rising}
+use Rattle.reading.specs.Answers.{nowhere, sizeOf}
+use Rattle.reading.specs.Front.{partOf, partIn, Rising}
 use Rattle.parts.specs.Items.{itemAt}
 use Rattle.steps.specs.Steps.{Spot, Moved, between, stepAt}
 use Rattle.reading.proofs.BlockWalk.{nth-more}

@@ -16,8 +16,8 @@ use Rattle.shorthand.specs.Parse.{parsed}
 use Rattle.shorthand.specs.Facts.{Facts}
 use Rattle.shorthand.proofs.Fairness.{accepted-facts}
 use Rattle.reading.specs.Parse.{Entry}
-use Rattle.reading.specs.Answers.{nowhere, nth, programAt, read, readUnder, entryNumbered}
-use Rattle.reading.specs.Front.{sizeOf, hasBlock}
+use Rattle.reading.specs.Answers.{nowhere, nth, programAt, read, readUnder, entryNumbered, sizeOf}
+use Rattle.reading.specs.Front.{hasBlock}
 use Rattle.reading.proofs.Places.{places}
 
 -- ---- the shorthand first

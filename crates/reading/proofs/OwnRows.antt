@@ -16,10 +16,10 @@ use Rattle.shorthand.specs.declared.Format.{Format}
 use Rattle.words.specs.Figures.{Behind, taking, behind}
 use Rattle.reading.specs.Parse.{BlockRead, Entry, entry, blockAt, blocksAt}
 use Rattle.parts.specs.Ends.{headAt}
-use Rattle.reading.specs.Answers.{nowhere, read}
+use Rattle.reading.specs.Answers.{nowhere, read, sizeOf}
 use Rattle.reading.specs.declared.Part.{Part}
 use Rattle.reading.specs.Record.{emptyBlock}
-use Rattle.reading.specs.Front.{blockOnly, sizeOf, partIn, blockIn, hasBlock}
+use Rattle.reading.specs.Front.{blockOnly, partIn, blockIn, hasBlock}
 use Rattle.reading.proofs.BlockWalk.{advances, program-blocks, program-refused, read-clean, read-refused}
 use Rattle.reading.proofs.ReadBlocks.{Last, last, before}
 use Rattle.reading.proofs.Sound.{block-rows, head-rows}

@@ -4,12 +4,13 @@ use mathlib.Core.Bool.{Bool, true, false, cond}
 use mathlib.Core.List.{List, [], _∷_}
 use lib.ListN.{length, getD, take, drop}
 use lib.Dec.{ltb}
-use Rattle.rows.specs.Answer.{Answer, taken, refused, _>>=_, _>>_}
+use Rattle.rows.specs.Answer.{Answer, taken, refused, refusal, _>>=_, _>>_}
 use Rattle.rows.specs.Stages.{judged}
 use Rattle.rows.specs.Kept.{KeptRow, kept}
 use Rattle.shorthand.specs.declared.Format.{Format}
 use Rattle.shorthand.specs.Parse.{parsed}
 use Rattle.reading.specs.declared.Block.{Block}
+use Rattle.reading.specs.declared.Counted.{Counted}
 use Rattle.reading.specs.Record.{emptyBlock}
 use Rattle.reading.specs.Parse.{Entry, blocksAt}
 use Rattle.parts.specs.Ends.{headAt}
@@ -37,9 +38,18 @@ nth n es = cond (ltb n (length es)) (taken (getD es n nowhere)) (refused 15 (len
 abbrev pub entryNumbered : ℕ → List ℕ → List ℕ → ℕ → Answer Entry
 entryNumbered e s t n = readUnder e s t >>= nth n
 
+-- the number of some blocks
+abbrev pub sizeOf : Answer (List Entry) → Answer ℕ
+sizeOf a = a >>= λ es. taken (length es)
+
 -- the number of blocks
 abbrev pub counted : ℕ → List ℕ → List ℕ → Answer ℕ
-counted e s t = readUnder e s t >>= λ es. taken (length es)
+counted e s t = sizeOf (readUnder e s t)
+
+-- what each case of `Counted` says
+abbrev pub countTold : Counted → Answer ℕ
+countTold (Counted.Blocks n) = taken n
+countTold (Counted.Refused r) = refusal r
 
 -- block n
 abbrev pub blockNumbered : ℕ → List ℕ → List ℕ → ℕ → Answer Block

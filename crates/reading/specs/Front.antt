@@ -1,27 +1,19 @@
--- What the functions' answers say: how many blocks there are, where one stands, and its record.
+-- What the private functions' answers say: where a block stands, and its record.
 use Prim.Native.Nat.{ℕ, suc, _≤_, _<_}
 use mathlib.Core.Bool.{cond}
 use mathlib.Core.List.{List, [], _∷_}
 use lib.Dec.{ltb}
 use lib.ListN.{length, getD}
-use Rattle.rows.specs.Answer.{Answer, taken, refused, refusal, valueOr, _>>=_}
+use Rattle.rows.specs.Answer.{Answer, taken, refused, valueOr, _>>=_}
 use Rattle.rows.specs.Kept.{KeptRow}
 use Rattle.words.specs.Figures.{Behind}
 use Rattle.reading.specs.declared.Block.{Block}
-use Rattle.reading.specs.declared.Counted.{Counted}
 use Rattle.reading.specs.declared.Part.{Part}
 use Rattle.reading.specs.Parse.{BlockRead, Entry}
 use Rattle.reading.specs.Answers.{nowhere}
 
 abbrev pub blockOnly : Answer (Behind BlockRead) → Answer Block
 blockOnly a = a >>= λ b. taken (b .value .block)
-
-abbrev pub countTold : Counted → Answer ℕ
-countTold (Counted.Blocks n) = taken n
-countTold (Counted.Refused r) = refusal r
-
-abbrev pub sizeOf : Answer (List Entry) → Answer ℕ
-sizeOf a = a >>= λ es. taken (length es)
 
 -- where the rows of block n stand, and its record; none where it is not there
 abbrev pub partOf : Entry → Part

@@ -4,8 +4,8 @@ ghost use mathlib.Core.List.{[]};
 ghost use Rattle.rows.specs.Answer.{numberOf, placeOf, told, void, valueOr};
 ghost use Rattle.shorthand.specs.Facts.{Facts};
 ghost use Rattle.reading.specs.Record.{emptyBlock};
-ghost use Rattle.reading.specs.Answers.{nowhere, read, entryNumbered, counted, blockNumbered, rowsNumbered};
-ghost use Rattle.reading.specs.Front.{countTold, sizeOf, partOf, partIn, blockIn, hasBlock};
+ghost use Rattle.reading.specs.Answers.{nowhere, read, entryNumbered, counted, blockNumbered, rowsNumbered, countTold, sizeOf};
+ghost use Rattle.reading.specs.Front.{partOf, partIn, blockIn, hasBlock};
 
 pub mod records;
 mod walk;

@@ -4,7 +4,7 @@ use native.Mathlib.Omega.{arith}
 use denote.Ref.{now}
 use Rattle.rows.specs.Answer.{told}
 use Rattle.parts.specs.Front.{endTold}
-use Rattle.reading.specs.Front.{countTold}
+use Rattle.reading.specs.Answers.{countTold}
 use Rattle.reading.proofs.BlockWalk.{enters-at}
 use Rattle.reading.proofs.Numbered.{parsed-facts}
 use Rattle.lines.proofs.Listed.{counted-remains}

@@ -2,7 +2,7 @@
 use mathlib.Core.Path.{_≡_, _∙_, sym, ap}
 use borrow.Author.Needs.{needs}
 use Rattle.rows.specs.Answer.{told}
-use Rattle.reading.specs.Front.{sizeOf}
+use Rattle.reading.specs.Answers.{sizeOf}
 use Rattle.reading.proofs.Numbered.{parsed-facts, under, under-refused}
 use Rattle.reading.proofs.count_blocks.Statement.{statement}
 use Rattle.reading.proofs.count_blocks.Tie as tie

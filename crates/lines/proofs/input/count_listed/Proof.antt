@@ -1,7 +1,7 @@
 -- `lines::input::count_listed`: within the limit as reading says; beyond it 4, after 1, 2 and 3.
 use borrow.Author.Needs.{needs}
 use Rattle.lines.proofs.Headers.{within, beyond}
-use Rattle.reading.specs.Front.{sizeOf}
+use Rattle.reading.specs.Answers.{sizeOf}
 use Rattle.rows.specs.Answer.{told}
 use mathlib.Core.Path.{_≡_, sym, ap, _∙_}
 use Rattle.lines.proofs.input.count_listed.Statement.{statement}

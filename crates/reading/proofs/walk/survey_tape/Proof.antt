@@ -5,7 +5,8 @@ use borrow.Author.Needs.{needs}
 use denote.Ref.{now}
 use Rattle.rows.specs.Answer.{refusal}
 use Rattle.parts.specs.Front.{endTold, endRefusal}
-use Rattle.reading.specs.Front.{sizeOf, partIn}
+use Rattle.reading.specs.Answers.{sizeOf}
+use Rattle.reading.specs.Front.{partIn}
 use Rattle.reading.proofs.BlockWalk.{not-entered, enters-at, enters}
 use Rattle.reading.proofs.walk.survey_tape.Statement.{statement}
 use Rattle.reading.proofs.walk.survey_tape.Tie as tie
