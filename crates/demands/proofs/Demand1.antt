@@ -2,7 +2,7 @@
 use Prim.Native.Nat.{ℕ, zero, suc, _^_, _≤_, _<_}
 use native.Mathlib.Decide.{decLt}
 use native.Mathlib.Omega.{arith}
-use mathlib.Core.Path.{_≡_, refl}
+use mathlib.Core.Path.{_≡_, refl, sym, _∙_}
 use mathlib.Core.Logic.{_⊎_, inl, inr, ⊎-elim, _↔_}
 use mathlib.Core.Bool.{Bool, true, false, _||_, not}
 use mathlib.Core.List.{List, [], _∷_, _++_}
@@ -59,11 +59,14 @@ module _ (e : ℕ) (s : List ℕ) (n p : ℕ) (answer : parsed e s ≡ refused n
       by some true q = let g = mended.in-order-starred e s n p answer l (rw q tt) in inr (spelt-by e _ (g .0) (g .1))
       by some false q = let g = mended.in-order e s n p answer some l (rw q tt) in inl (spelt-by e _ (g .0) (g .1))
 
+  unspelt : Spelt e s → ⊥
+  unspelt h = let q : taken (h .format) ≡ refused n p = sym (accepted e s (h .format) .1 (h .text, h .lawful)) ∙ answer in let z : _≡_ {A = ℕ} 0 1 = cc in omega (arith, z)
+
   numbered : T (known e) → (n ≡ 2) ⊎ (n ≡ 3) → p ≤ length s → Spelling e s n p
   numbered k (inl two) h =
       elim (decLt p (length s)) [
         | yes l ↦ rw two (out-of-form k l (in-order l) (mended.out-of-form e s n p answer two l))
-        | no l ↦ (let at : p ≡ length s = omega (arith, l, h) in let g = mended.lacking e s n p answer k at in rw (two, at) (lacking k (g .0) (spelt-by e _ (g .1) (g .2))))
+        | no l ↦ (let at : p ≡ length s = omega (arith, l, h) in let g = mended.lacking e s n p answer k at in rw (two, at) (lacking k unspelt (g .0) (spelt-by e _ (g .1) (g .2))))
       ]
   numbered k (inr three) h =
       let l = mended.before-end e s n p answer three in
@@ -173,7 +176,7 @@ spelling-low : {e : ℕ} {s : List ℕ} {n p : ℕ} → Spelling e s n p → n �
 spelling-low (edition k) = omega arith
 spelling-low (out-of-form k i o m) = omega arith
 spelling-low (beyond k i o m g) = omega arith
-spelling-low (lacking k u h) = omega arith
+spelling-low (lacking k m u h) = omega arith
 
 of-tape : {e : ℕ} {s t : List ℕ} {n p : ℕ} → 4 ≤ n → Reading e s t n p → TapeRefusal e s t n p
 of-tape l (Reading.shorthand h) = absurd (omega (arith, l, spelling-low h))

@@ -33,7 +33,7 @@ pub data Spelling (e : ℕ) (s : List ℕ) : ℕ → ℕ → Type 0 where
   edition : T (not (known e)) → Spelling e s 1 0
   out-of-form : {p : ℕ} → T (known e) → p < length s → InOrder e s p → (Mends form s p → ⊥) → Spelling e s 2 p
   beyond : {p : ℕ} → T (known e) → p < length s → InOrder e s p → (Mends e s p → ⊥) → Mends form s p → Spelling e s 3 p
-  lacking : T (known e) → (u : List ℕ) → Spelt e (s ++ u) → Spelling e s 2 (length s)
+  lacking : T (known e) → (Spelt e s → ⊥) → (u : List ℕ) → Spelt e (s ++ u) → Spelling e s 2 (length s)
 
 -- 4 to 14 of a tape under a shorthand that is in order: 4 to 7 by its rows, 8 to 14 by what its kept rows could still have become
 pub data TapeRefusal (e : ℕ) (s t : List ℕ) : ℕ → ℕ → Type 0 where
