@@ -1,7 +1,7 @@
 //! Reading a tape: the four stages, and the blocks handed to a visitor as they are found.
 
 use crate::rows::{self, CR, DEL, HT, LF, NUL};
-use crate::shorthand::{Format, Item, Kind, Sign};
+use crate::shorthand::{Dropped, Format, Item, Kind, Sign};
 use crate::speeds;
 use crate::Refusal;
 
@@ -33,6 +33,8 @@ pub trait Visitor {
     fn block(&mut self, opening: Opening);
     /// A word of the block begun last.
     fn word(&mut self, letter: u8, value: Value);
+    /// The head or a block has ended just before the row `after`.
+    fn end(&mut self, _after: usize) {}
 }
 
 /// Only counts the blocks.
@@ -69,12 +71,44 @@ impl Visitor for Vec<Block> {
     }
 }
 
+/// Where the head and each block end, by the row just after their LF.
+#[derive(Default)]
+pub struct Ends {
+    /// the head's first
+    pub after: Vec<usize>,
+}
+
+impl Visitor for Ends {
+    fn block(&mut self, _: Opening) {}
+    fn word(&mut self, _: u8, _: Value) {}
+    fn end(&mut self, after: usize) {
+        self.after.push(after);
+    }
+}
+
+/// Block `n` of `tape`, from 0.
+pub fn read_block(format: &Format, tape: &[u8], n: u64) -> Result<Block, Refusal> {
+    let mut blocks = Vec::new();
+    read(format, tape, &mut blocks)?;
+    let there = blocks.len();
+    usize::try_from(n).ok().filter(|&n| n < there).map(|n| blocks.swap_remove(n)).ok_or(Refusal::new(15, there))
+}
+
+/// The rows of block `n`: from just after the end before it to its own LF.
+pub fn block_rows<'t>(format: &Format, tape: &'t [u8], n: u64) -> Result<&'t [u8], Refusal> {
+    let mut ends = Ends::default();
+    read(format, tape, &mut ends)?;
+    let there = ends.after.len() - 1;
+    let n = usize::try_from(n).ok().filter(|&n| n < there).ok_or(Refusal::new(15, there))?;
+    Ok(&tape[ends.after[n]..ends.after[n + 1]])
+}
+
 /// Reads the whole of `tape`. A stage starts only when the one before has passed the whole tape.
 pub fn read<V: Visitor>(format: &Format, tape: &[u8], visitor: &mut V) -> Result<(), Refusal> {
     rows::judge(tape)?;
     judge_control_outs(tape)?;
     let mut reader = Reader::over(tape);
-    reader.head()?;
+    reader.head(visitor)?;
     while reader.here().is_some() {
         reader.block(format, visitor)?;
     }
@@ -158,7 +192,7 @@ impl<'t> Reader<'t> {
     }
 
     /// "%" and an end. Place and tape length are the same thing where the tape ends too soon.
-    fn head(&mut self) -> Result<(), Refusal> {
+    fn head<V: Visitor>(&mut self, visitor: &mut V) -> Result<(), Refusal> {
         if self.here() != Some(b'%') {
             return Err(Refusal::new(8, self.place));
         }
@@ -168,11 +202,18 @@ impl<'t> Reader<'t> {
             self.step();
         }
         match self.here() {
-            Some(LF) => self.step(),
+            Some(LF) => self.line_feed(visitor),
             None => return Err(Refusal::new(8, self.place)),
             Some(_) => return Err(Refusal::new(8, end)),
         }
         Ok(())
+    }
+
+    /// Steps over the LF that ends the head or a block.
+    #[inline]
+    fn line_feed<V: Visitor>(&mut self, visitor: &mut V) {
+        visitor.end(self.place + 1);
+        self.step();
     }
 
     fn block<V: Visitor>(&mut self, format: &Format, visitor: &mut V) -> Result<(), Refusal> {
@@ -193,7 +234,7 @@ impl<'t> Reader<'t> {
         } else {
             self.words(format, visitor)?;
         }
-        self.end()
+        self.end(visitor)
     }
 
     /// Each tab steps to the next item; its word follows, or nothing.
@@ -220,7 +261,7 @@ impl<'t> Reader<'t> {
     }
 
     /// LF, or CR directly before LF.
-    fn end(&mut self) -> Result<(), Refusal> {
+    fn end<V: Visitor>(&mut self, visitor: &mut V) -> Result<(), Refusal> {
         match self.here() {
             Some(LF) => {}
             Some(CR) => {
@@ -234,7 +275,7 @@ impl<'t> Reader<'t> {
             }
             _ => return Err(self.wrong(10)),
         }
-        self.step();
+        self.line_feed(visitor);
         Ok(())
     }
 
@@ -255,8 +296,10 @@ impl<'t> Reader<'t> {
         Ok(match item.kind {
             Kind::Plain => Value::Plain(number),
             Kind::Speed => Value::Speed(speeds::units(item.most, number).ok_or(Refusal::new(13, address))?),
-            Kind::Dimension => Value::Dimension(dimension(number)),
-            Kind::Trailing => Value::Dimension(dimension(number * 10u64.pow(item.most - count))),
+            Kind::Dimension { dropped: Dropped::Trailing, .. } => {
+                Value::Dimension(dimension(number * 10u64.pow(item.most - count)))
+            }
+            Kind::Dimension { .. } => Value::Dimension(dimension(number)),
         })
     }
 
@@ -386,6 +429,25 @@ mod tests {
         assert_eq!(answer(1057, "N3.F3*", "%\nN001\tF100"), (13, 7));
         assert_eq!(answer(1057, "N3.F3*", "%\nN001\tF10"), (14, 10));
         assert_eq!(answer(1057, "N3.F3*", "%\nN001\tF000\n"), (0, 1));
+    }
+
+    #[test]
+    fn one_block_and_its_rows() {
+        let format = shorthand::parse(1057, PLAIN.as_bytes()).unwrap();
+        let text = "\0%\r\n\0(A\n)/N001\tG01\r(B)\n\x7F:002\n\0";
+        let tape = tape(text);
+        let rows = |n| block_rows(&format, &tape, n);
+        assert_eq!(rows(0), Ok(&tape[4..23]));
+        assert_eq!(rows(1), Ok(&tape[23..29]));
+        assert_eq!(rows(2), Err(Refusal::new(15, 2)));
+        assert_eq!(rows(u64::MAX), Err(Refusal::new(15, 2)));
+        let first = Opening { skip: true, alignment: false, sequence: 1 };
+        let second = Opening { skip: false, alignment: true, sequence: 2 };
+        let block = |n| read_block(&format, &tape, n);
+        assert_eq!(block(0), Ok(Block { opening: first, words: vec![(b'G', Value::Plain(1))] }));
+        assert_eq!(block(1), Ok(Block { opening: second, words: vec![] }));
+        assert_eq!(block(2), Err(Refusal::new(15, 2)));
+        assert_eq!(read_block(&format, &tape[..10], 7), Err(Refusal::new(14, 10)));
     }
 
     #[test]

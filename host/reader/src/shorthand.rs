@@ -36,6 +36,28 @@ pub enum Sign {
     Required,
 }
 
+/// The mark of a dimension item.
+#[derive(Clone, Copy, Debug, PartialEq, Eq)]
+pub enum Mark {
+    /// none: absolute, never a sign
+    Bare,
+    /// "+": absolute and signed
+    Absolute,
+    /// "D": incremental and signed
+    Incremental,
+}
+
+/// Which zeros of a dimension may be dropped.
+#[derive(Clone, Copy, Debug, PartialEq, Eq)]
+pub enum Dropped {
+    /// none: two digits in the shorthand
+    None,
+    /// `0ab`
+    Leading,
+    /// `ab0`
+    Trailing,
+}
+
 /// What a word's digits mean.
 #[derive(Clone, Copy, Debug, PartialEq, Eq)]
 pub enum Kind {
@@ -43,10 +65,15 @@ pub enum Kind {
     Plain,
     /// F and S
     Speed,
-    /// all others, with every digit or the leading ones dropped
-    Dimension,
-    /// all others, where trailing zeros may be dropped
-    Trailing,
+    /// all others
+    Dimension {
+        /// its mark
+        mark: Mark,
+        /// how many of its digits stand before the implied point
+        before: u32,
+        /// which zeros may be dropped
+        dropped: Dropped,
+    },
 }
 
 /// One word item.
@@ -77,11 +104,10 @@ pub struct Format {
 
 /// What an item's digits are worth; `grows` where they end the text and further ones could follow.
 enum Digits {
-    /// in form by both editions: the fewest and the most digits, and which zeros may be dropped
-    Full(u32),
-    /// in form, but only by 2539
-    Leading(u32),
-    Trailing(u32),
+    /// in form: how many digits a G, M, T, F or S has
+    All(u32),
+    /// in form: a dimension's digits before the point and behind it. Dropped zeros are only by 2539
+    Point(u32, u32, Dropped),
     /// further bytes can bring it into form, by both editions or only by 2539
     Growing,
     GrowingLater,
@@ -144,14 +170,18 @@ fn word_item(edition: Edition, text: &[u8], at: usize, dot: bool, due: &mut &[u8
     };
     *due = &due[rank + 1..];
 
-    let mark = text.get(address + 1).copied().filter(|m| is_dimension(letter) && matches!(m, b'+' | b'D'));
-    let start = address + 1 + usize::from(mark.is_some());
+    let mark = match text.get(address + 1) {
+        Some(b'+') if is_dimension(letter) => Mark::Absolute,
+        Some(b'D') if is_dimension(letter) => Mark::Incremental,
+        _ => Mark::Bare,
+    };
+    let start = address + 1 + usize::from(mark != Mark::Bare);
     let end = digits_end(text, start);
     let digits = digits_of(letter, &text[start..end], end == text.len());
 
     let needs_2539 = !dot
         || matches!(letter, b'I' | b'J' | b'K')
-        || matches!(digits, Digits::Leading(_) | Digits::Trailing(_) | Digits::GrowingLater);
+        || matches!(digits, Digits::Point(_, _, Dropped::Leading | Dropped::Trailing) | Digits::GrowingLater);
     if matches!(digits, Digits::Out) {
         return out_of_form;
     }
@@ -159,15 +189,17 @@ fn word_item(edition: Edition, text: &[u8], at: usize, dot: bool, due: &mut &[u8
         return Err(Refusal::new(3, at));
     }
     let (kind, least, most) = match digits {
-        Digits::Full(all) => (kind_of(letter), all, all),
-        Digits::Leading(all) => (Kind::Dimension, 1, all),
-        Digits::Trailing(all) => (Kind::Trailing, 1, all),
+        Digits::All(all) => (if matches!(letter, b'F' | b'S') { Kind::Speed } else { Kind::Plain }, all, all),
+        Digits::Point(before, behind, dropped) => {
+            let all = before + behind;
+            (Kind::Dimension { mark, before, dropped }, if dropped == Dropped::None { all } else { 1 }, all)
+        }
         Digits::Growing | Digits::GrowingLater | Digits::Out => return unfinished,
     };
     let sign = match (mark, edition) {
-        (None, _) => Sign::Barred,
-        (Some(_), Edition::Iso1057) => Sign::Required,
-        (Some(_), Edition::Iso2539) => Sign::Optional,
+        (Mark::Bare, _) => Sign::Barred,
+        (_, Edition::Iso1057) => Sign::Required,
+        (_, Edition::Iso2539) => Sign::Optional,
     };
     Ok((Item { letter, kind, sign, least, most }, end))
 }
@@ -177,31 +209,24 @@ fn digits_of(letter: u8, digits: &[u8], grows: bool) -> Digits {
     let value = |digit: u8| u32::from(digit - b'0');
     match (letter, digits) {
         (_, []) if grows => Digits::Growing,
-        (b'G' | b'M', b"2") => Digits::Full(2),
-        (b'F' | b'S', &[digit @ b'3'..=b'5']) => Digits::Full(value(digit)),
-        (b'T', &[digit @ b'1'..=b'9']) => Digits::Full(value(digit)),
+        (b'G' | b'M', b"2") => Digits::All(2),
+        (b'F' | b'S', &[digit @ b'3'..=b'5']) => Digits::All(value(digit)),
+        (b'T', &[digit @ b'1'..=b'9']) => Digits::All(value(digit)),
         (b'G' | b'M' | b'F' | b'S' | b'T', _) => Digits::Out,
         (_, [_]) if grows => Digits::Growing,
         // `00` is refused, but `00b` is in form
         (_, b"00") if grows => Digits::GrowingLater,
         (_, b"00") => Digits::Out,
-        (_, &[a, b]) => Digits::Full(value(a) + value(b)),
-        (_, &[b'0', a, b @ b'1'..=b'9']) => Digits::Leading(value(a) + value(b)),
-        (_, &[a @ b'1'..=b'9', b, b'0']) => Digits::Trailing(value(a) + value(b)),
+        (_, &[a, b]) => Digits::Point(value(a), value(b), Dropped::None),
+        (_, &[b'0', a, b @ b'1'..=b'9']) => Digits::Point(value(a), value(b), Dropped::Leading),
+        (_, &[a @ b'1'..=b'9', b, b'0']) => Digits::Point(value(a), value(b), Dropped::Trailing),
         _ => Digits::Out,
     }
 }
 
-fn kind_of(letter: u8) -> Kind {
-    match letter {
-        b'G' | b'M' | b'T' => Kind::Plain,
-        b'F' | b'S' => Kind::Speed,
-        _ => Kind::Dimension,
-    }
-}
-
+/// Whether an item of `letter`, one of the order, is a dimension.
 fn is_dimension(letter: u8) -> bool {
-    kind_of(letter) == Kind::Dimension
+    !matches!(letter, b'G' | b'M' | b'T' | b'F' | b'S')
 }
 
 /// Where the digits that stand together from `start` on end.
@@ -279,6 +304,20 @@ mod tests {
         assert_eq!(answer(1057, "N3.I42*"), (3, 2));
         assert_eq!(answer(1057, "N3.I"), (3, 2));
         assert_eq!(answer(2539, "N3.DD42*"), (0, 0));
+    }
+
+    #[test]
+    fn the_items() {
+        let item = |edition, text: &str| parse(edition, text.as_bytes()).unwrap().items[0];
+        let dimension = |mark, before, dropped| Kind::Dimension { mark, before, dropped };
+        let made = |letter, kind, sign, least, most| Item { letter, kind, sign, least, most };
+        assert_eq!(item(1057, "N3.G2*"), made(b'G', Kind::Plain, Sign::Barred, 2, 2));
+        assert_eq!(item(2539, "N3T9*"), made(b'T', Kind::Plain, Sign::Barred, 9, 9));
+        assert_eq!(item(1057, "N3.S4*"), made(b'S', Kind::Speed, Sign::Barred, 4, 4));
+        assert_eq!(item(1057, "N3.X42*"), made(b'X', dimension(Mark::Bare, 4, Dropped::None), Sign::Barred, 6, 6));
+        assert_eq!(item(1057, "N3.X+42*"), made(b'X', dimension(Mark::Absolute, 4, Dropped::None), Sign::Required, 6, 6));
+        assert_eq!(item(2539, "N3.DD042*"), made(b'D', dimension(Mark::Incremental, 4, Dropped::Leading), Sign::Optional, 1, 6));
+        assert_eq!(item(2539, "N3.E+420*"), made(b'E', dimension(Mark::Absolute, 4, Dropped::Trailing), Sign::Optional, 1, 6));
     }
 
     #[test]

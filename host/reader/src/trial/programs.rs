@@ -5,15 +5,7 @@
 use super::chance::Chance;
 use crate::reading::{Block, Opening, Value};
 use crate::rows::{is_character, punched, BS, CR, DEL, HT, LF, NUL};
-use crate::shorthand::ORDER;
-
-/// Which zeros may be dropped.
-#[derive(Clone, Copy, PartialEq, Eq)]
-enum Dropped {
-    None,
-    Leading,
-    Trailing,
-}
+use crate::shorthand::{Dropped, ORDER};
 
 /// A word item as it was made.
 #[derive(Clone, Copy)]
