@@ -45,3 +45,8 @@ pub fn count_blocks(edition: u32, shorthand: &[u8], tape: &[u8]) -> Result<u64, 
     reading::read(&format, tape, &mut count)?;
     Ok(count.blocks)
 }
+
+/// Punches the block of `record` into `buffer` by `edition` and `shorthand`, and answers how many rows it has.
+pub fn punch_block(edition: u32, shorthand: &[u8], record: &punching::Record, buffer: &mut [u8]) -> Result<u64, Refusal> {
+    punching::punch_block(&shorthand::parse(edition, shorthand)?, record, buffer)
+}

@@ -1,23 +1,150 @@
-//! Punching the head, `%` LF.
+//! Punching: the head, `%` LF, and single blocks.
 
-use crate::rows::{punched, LF};
+use crate::reading::{Block, Opening, Value};
+use crate::rows::{punched, HT, LF};
+use crate::shorthand::{Format, Item, Kind, Sign};
+use crate::speeds;
 use crate::Refusal;
+
+/// How many places for words a record has.
+pub const PLACES: usize = 22;
+
+/// A letter and its value.
+pub type Word = (u8, Value);
+
+/// What stands in a place that holds no word.
+pub const CLEARED: Word = (0, Value::Plain(0));
+
+/// A block as it is handed in. The punch doesn't look at places past the count.
+#[derive(Clone, Debug, PartialEq, Eq)]
+pub struct Record {
+    /// how it begins
+    pub opening: Opening,
+    /// how many of the places hold its words
+    pub count: u64,
+    /// the words, and whatever stands behind them
+    pub places: [Word; PLACES],
+}
+
+/// The record that reading leaves: no more words than items, and the other places cleared.
+impl From<&Block> for Record {
+    fn from(block: &Block) -> Record {
+        let mut places = [CLEARED; PLACES];
+        places[..block.words.len()].copy_from_slice(&block.words);
+        Record { opening: block.opening, count: block.words.len() as u64, places }
+    }
+}
 
 /// Writes the head into the first rows of `buffer` and answers how many they are.
 pub fn punch_head(buffer: &mut [u8]) -> Result<u64, Refusal> {
-    match buffer {
-        [percent, end, ..] => {
-            *percent = punched(b'%');
-            *end = punched(LF);
-            Ok(2)
-        }
-        _ => Err(Refusal::new(19, 2)),
+    put(buffer, &[punched(b'%'), punched(LF)])
+}
+
+/// Writes the block of `record` into the first rows of `buffer` and answers how many they are.
+pub fn punch_block(format: &Format, record: &Record, buffer: &mut [u8]) -> Result<u64, Refusal> {
+    let characters = block(format, record)?;
+    let rows: Vec<u8> = characters.into_iter().map(punched).collect();
+    put(buffer, &rows)
+}
+
+/// All of `rows` or, where they don't fit, none.
+fn put(buffer: &mut [u8], rows: &[u8]) -> Result<u64, Refusal> {
+    let front = buffer.get_mut(..rows.len()).ok_or(Refusal::new(19, rows.len()))?;
+    front.copy_from_slice(rows);
+    Ok(rows.len() as u64)
+}
+
+/// The characters of the block: count, then sequence, then the words from the first.
+fn block(format: &Format, record: &Record) -> Result<Vec<u8>, Refusal> {
+    let count = usize::try_from(record.count).unwrap_or(usize::MAX);
+    let words = record.places.get(..count).ok_or(Refusal::new(16, PLACES + 1))?;
+    let Opening { skip, alignment, sequence } = record.opening;
+    let mut text = Vec::new();
+    if skip {
+        text.push(b'/');
     }
+    text.push(if alignment { b':' } else { b'N' });
+    digits(&mut text, format.sequence, sequence).ok_or(Refusal::new(17, 0))?;
+    let mut due = format.items.iter();
+    for (at, &(letter, value)) in words.iter().enumerate() {
+        let refused = |number| Refusal::new(number, at + 1);
+        let item = step_to(&mut text, format.tabs, &mut due, letter).ok_or(refused(16))?;
+        text.push(letter);
+        data(&mut text, item, value).map_err(refused)?;
+    }
+    text.push(LF);
+    Ok(text)
+}
+
+/// The item of `letter` among those still due, with a tab for it and for each that is passed over.
+fn step_to<'f>(text: &mut Vec<u8>, tabs: bool, due: &mut impl Iterator<Item = &'f Item>, letter: u8) -> Option<&'f Item> {
+    due.find(|item| {
+        if tabs {
+            text.push(HT);
+        }
+        item.letter == letter
+    })
+}
+
+/// What stands behind the address, or the number of the refusal.
+fn data(text: &mut Vec<u8>, item: &Item, value: Value) -> Result<(), u32> {
+    let number = match (item.kind, value) {
+        (Kind::Plain, Value::Plain(number)) => number,
+        (Kind::Speed, Value::Speed(speed)) => speeds::exact_code(item.most, speed).ok_or(18u32)?,
+        (Kind::Dimension { .. }, Value::Dimension(number)) => {
+            match (item.sign, number < 0) {
+                (Sign::Barred, true) => return Err(17),
+                (Sign::Barred, false) => {}
+                (_, minus) => text.push(if minus { b'-' } else { b'+' }),
+            }
+            number.unsigned_abs()
+        }
+        _ => return Err(16),
+    };
+    digits(text, item.most, number).ok_or(17)
+}
+
+/// Exactly `count` digits; none where the number has more.
+fn digits(text: &mut Vec<u8>, count: u32, number: u64) -> Option<()> {
+    let fits = number < 10u64.pow(count);
+    fits.then(|| text.extend(format!("{number:0width$}", width = count as usize).bytes()))
 }
 
 #[cfg(test)]
 mod tests {
     use super::*;
+    use crate::reading;
+    use crate::shorthand;
+
+    const PLAIN: &str = "N3.G2.X+42.F3.M2*";
+
+    fn record(sequence: u64, words: &[Word]) -> Record {
+        let opening = Opening { skip: false, alignment: false, sequence };
+        Record::from(&Block { opening, words: words.to_vec() })
+    }
+
+    /// What is punched into a buffer with room, or number and place.
+    fn answer(edition: u32, text: &str, record: &Record) -> Result<String, (u32, u64)> {
+        let mut buffer = vec![1; 500];
+        match crate::punch_block(edition, text.as_bytes(), record, &mut buffer) {
+            Ok(rows) => {
+                assert!(buffer[rows as usize..].iter().all(|&row| row == 1));
+                let characters = buffer[..rows as usize].iter().map(|&row| {
+                    assert_eq!(row, punched(row & 0x7F));
+                    (row & 0x7F) as char
+                });
+                Ok(characters.collect())
+            }
+            Err(refusal) => {
+                assert_eq!(buffer, vec![1; 500]);
+                Err((refusal.number, refusal.place))
+            }
+        }
+    }
+
+    fn one_word(text: &str, letter: u8, value: Value) -> Result<String, (u32, u64)> {
+        answer(2539, text, &record(1, &[(letter, value)]))
+    }
 
     #[test]
     fn a_head_needs_two_rows() {
@@ -26,5 +153,130 @@ mod tests {
         assert_eq!(buffer, [7; 3]);
         assert_eq!(punch_head(&mut buffer), Ok(2));
         assert_eq!(buffer, [165, 10, 7]);
+    }
+
+    #[test]
+    fn the_example() {
+        let first = record(1, &[(b'G', Value::Plain(1)), (b'X', Value::Dimension(12_500)), (b'F', Value::Speed(1_500_000_000))]);
+        let mut second = record(2, &[(b'X', Value::Dimension(-250))]);
+        second.opening.skip = true;
+        assert_eq!(answer(1057, PLAIN, &first), Ok("N001\tG01\tX+012500\tF615\n".into()));
+        assert_eq!(answer(1057, PLAIN, &second), Ok("/N002\t\tX-000250\n".into()));
+        second.opening.alignment = true;
+        assert_eq!(answer(2539, "N4G2X+042M2*", &second), Ok("/:0002X-000250\n".into()));
+    }
+
+    #[test]
+    fn full_length_and_signs() {
+        assert_eq!(one_word("N3X+042*", b'X', Value::Dimension(5)), Ok("N001X+000005\n".into()));
+        assert_eq!(one_word("N3X+420*", b'X', Value::Dimension(500_000)), Ok("N001X+500000\n".into()));
+        assert_eq!(one_word("N3XD42*", b'X', Value::Dimension(0)), Ok("N001X+000000\n".into()));
+        assert_eq!(one_word("N3X42*", b'X', Value::Dimension(0)), Ok("N001X000000\n".into()));
+        assert_eq!(one_word("N3T9*", b'T', Value::Plain(7)), Ok("N001T000000007\n".into()));
+        assert_eq!(one_word("N3F3*", b'F', Value::Speed(0)), Ok("N001F000\n".into()));
+        assert_eq!(one_word("N3F3*", b'F', Value::Speed(4_600)), Ok("N001F046\n".into()));
+        assert_eq!(answer(1057, PLAIN, &record(0, &[])), Ok("N000\n".into()));
+        assert_eq!(answer(1057, PLAIN, &record(999, &[(b'M', Value::Plain(2))])), Ok("N999\t\t\t\tM02\n".into()));
+    }
+
+    #[test]
+    fn the_longest_block() {
+        let text = "N9.G2.X+99.Y+99.Z+99.U+99.V+99.W+99.P+99.Q+99.R+99.I+99.J+99.K+99.A+99.B+99.C+99.D+99.E+99.F5.S5.T9.M2*";
+        let format = shorthand::parse(2539, text.as_bytes()).unwrap();
+        let most = 999_999_999_999_999_999;
+        let words: Vec<Word> = format.items.iter().map(|item| (item.letter, greatest(item, most))).collect();
+        let block = Block { opening: Opening { skip: true, alignment: true, sequence: 999_999_999 }, words };
+        let mut rows = vec![0; 500];
+        let count = punch_block(&format, &Record::from(&block), &mut rows).unwrap() as usize;
+        let tape = [&[punched(b'%'), punched(LF)], &rows[..count]].concat();
+        assert_eq!(reading::read_block(&format, &tape, 0), Ok(block));
+        assert_eq!(reading::block_rows(&format, &tape, 0), Ok(&rows[..count]));
+    }
+
+    fn greatest(item: &Item, dimension: i64) -> Value {
+        match item.kind {
+            Kind::Plain => Value::Plain(10u64.pow(item.most) - 1),
+            Kind::Speed => Value::Speed(9_999_000_000_000),
+            Kind::Dimension { .. } => Value::Dimension(-dimension),
+        }
+    }
+
+    #[test]
+    fn words_that_are_no_item() {
+        let (g, x, f) = ((b'G', Value::Plain(1)), (b'X', Value::Dimension(1)), (b'F', Value::Speed(1_000)));
+        let wrong = |words: &[Word]| answer(1057, PLAIN, &record(1, words)).unwrap_err();
+        assert_eq!(wrong(&[g, (b'Z', Value::Dimension(1))]), (16, 2));
+        assert_eq!(wrong(&[x, g]), (16, 2));
+        assert_eq!(wrong(&[g, x, x, f]), (16, 3));
+        assert_eq!(wrong(&[(b'N', Value::Plain(1))]), (16, 1));
+        assert_eq!(wrong(&[(b'G', Value::Dimension(1))]), (16, 1));
+        assert_eq!(wrong(&[(b'X', Value::Plain(1))]), (16, 1));
+        assert_eq!(wrong(&[g, x, (b'F', Value::Plain(1_000))]), (16, 3));
+        assert_eq!(wrong(&[g, x, (b'F', Value::Dimension(1_000))]), (16, 3));
+    }
+
+    #[test]
+    fn counts() {
+        let mut handed = record(1, &[(b'G', Value::Plain(1)), (b'X', Value::Dimension(1))]);
+        handed.count = 1;
+        assert_eq!(answer(1057, PLAIN, &handed), Ok("N001\tG01\n".into()));
+        handed.count = 3;
+        assert_eq!(answer(1057, PLAIN, &handed), Err((16, 3)));
+        handed.count = 22;
+        assert_eq!(answer(1057, PLAIN, &handed), Err((16, 3)));
+        for count in [23, 1 << 32, u64::MAX] {
+            handed.count = count;
+            assert_eq!(answer(1057, PLAIN, &handed), Err((16, 23)));
+        }
+    }
+
+    #[test]
+    fn numbers_that_do_not_fit() {
+        assert_eq!(answer(1057, PLAIN, &record(1_000, &[])), Err((17, 0)));
+        assert_eq!(answer(2539, "N9*", &record(u64::MAX, &[])), Err((17, 0)));
+        assert_eq!(one_word("N3G2*", b'G', Value::Plain(100)), Err((17, 1)));
+        assert_eq!(one_word("N3X+42*", b'X', Value::Dimension(-1_000_000)), Err((17, 1)));
+        assert_eq!(one_word("N3X+42*", b'X', Value::Dimension(i64::MIN)), Err((17, 1)));
+        assert_eq!(one_word("N3X+99*", b'X', Value::Dimension(i64::MAX)), Err((17, 1)));
+        assert_eq!(one_word("N3X42*", b'X', Value::Dimension(-1)), Err((17, 1)));
+    }
+
+    #[test]
+    fn speeds_without_an_exact_code() {
+        for speed in [999, 1_550_000_000, 10_000_000_000_000, u64::MAX] {
+            assert_eq!(one_word("N3F3*", b'F', Value::Speed(speed)), Err((18, 1)));
+        }
+        assert_eq!(one_word("N3F4*", b'F', Value::Speed(1_550_000_000)), Ok("N001F6155\n".into()));
+    }
+
+    #[test]
+    fn the_order_of_refusals() {
+        let (z, g) = ((b'Z', Value::Plain(1)), (b'G', Value::Plain(100)));
+        let mut handed = record(1_000, &[z]);
+        handed.count = 23;
+        assert_eq!(answer(1058, "N3G2*", &handed), Err((1, 0)));
+        assert_eq!(answer(1057, "N3G2*", &handed), Err((3, 2)));
+        assert_eq!(answer(1057, "N3G", &handed), Err((3, 2)));
+        assert_eq!(answer(2539, "N3G", &handed), Err((2, 3)));
+        assert_eq!(answer(1057, "N3.G2*", &handed), Err((16, 23)));
+        handed.count = 1;
+        assert_eq!(answer(1057, "N3.G2*", &handed), Err((17, 0)));
+        assert_eq!(answer(1057, "N3.G2*", &record(1, &[g, z])), Err((17, 1)));
+        assert_eq!(answer(1057, "N3.G2*", &record(1, &[z, g])), Err((16, 1)));
+    }
+
+    #[test]
+    fn a_buffer_too_small() {
+        let format = shorthand::parse(1057, PLAIN.as_bytes()).unwrap();
+        let handed = record(1, &[(b'G', Value::Plain(1))]);
+        let mut buffer = [7; 10];
+        for room in 0..9 {
+            assert_eq!(punch_block(&format, &handed, &mut buffer[..room]), Err(Refusal::new(19, 9)));
+        }
+        assert_eq!(punch_block(&format, &record(1_000, &[]), &mut []), Err(Refusal::new(17, 0)));
+        assert_eq!(punch_block(&format, &record(1, &[]), &mut []), Err(Refusal::new(19, 5)));
+        assert_eq!(buffer, [7; 10]);
+        assert_eq!(punch_block(&format, &handed, &mut buffer), Ok(9));
+        assert_eq!(buffer, [78, 48, 48, 177, 9, 71, 48, 177, 10, 7]);
     }
 }

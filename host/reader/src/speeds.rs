@@ -58,6 +58,11 @@ pub fn code_of(digits: u32, speed: u64) -> Result<u64, Refusal> {
     Ok(d * one + rounded / weight)
 }
 
+/// The code of `digits` digits that means exactly `speed`, if there is one.
+pub fn exact_code(digits: u32, speed: u64) -> Option<u64> {
+    code_of(digits, speed).ok().filter(|&code| units(digits, code) == Some(speed))
+}
+
 #[cfg(test)]
 mod tests {
     use super::*;
@@ -101,8 +106,18 @@ mod tests {
             for code in 0..10u64.pow(digits) {
                 if let Ok(speed) = speed_of(digits, code) {
                     assert_eq!(code_of(digits, speed), Ok(code));
+                    assert_eq!(exact_code(digits, speed), Some(code));
                 }
             }
         }
+    }
+
+    #[test]
+    fn speeds_without_an_exact_code() {
+        for speed in [1, 999, 1_001, 17_280_000_000, 9_949_999_999_999, 10_000_000_000_000, u64::MAX] {
+            assert_eq!(exact_code(3, speed), None);
+        }
+        assert_eq!(exact_code(5, 17_280_000_000), Some(71_728));
+        assert_eq!(exact_code(6, 1_000), None);
     }
 }
