@@ -160,13 +160,7 @@ fn bad_middling_tape(chance: &mut Chance, inputs: &mut Vec<Input>) {
 fn bad_shorthand(chance: &mut Chance, inputs: &mut Vec<Input>) {
     let plan = programs::plan(chance);
     let rows = programs::tape(chance, &plan, 2).rows;
-    let text = if chance.happens(1, 3) {
-        damage::pieces(chance)
-    } else {
-        let mut text = plan.text.clone();
-        damage::shorthand(chance, &mut text);
-        text
-    };
+    let text = bad_text(chance, plan.text);
     inputs.push(Input::count(either_edition(chance), &text, rows));
 }
 
@@ -190,9 +184,7 @@ fn other_edition(chance: &mut Chance, inputs: &mut Vec<Input>) {
         damage::tape(chance, &mut rows);
         damage::shorthand(chance, &mut text);
     }
-    let near = [0, 1, 1056, 1058, 2538, 2540, 1057 + 65536, 2539 + 65536, 1057 << 16, u32::MAX, 0x8000_0000 + 1057];
-    let edition = if chance.happens(1, 2) { chance.one_of(&near) } else { chance.number() as u32 };
-    inputs.push(Input::count(edition, &text, rows));
+    inputs.push(Input::count(strange_edition(chance), &text, rows));
 }
 
 /// A tape cut at every length.
@@ -231,8 +223,27 @@ fn odd_holes(chance: &mut Chance, inputs: &mut Vec<Input>) {
     inputs.push(Input::count(plan.edition, &plan.text, rows).known(Err(Refusal::new(5, chosen[0]))));
 }
 
-fn either_edition(chance: &mut Chance) -> u32 {
+/// A shorthand that is hardly ever sound: pieces of some, or damage to `text`.
+pub(super) fn bad_text(chance: &mut Chance, mut text: Vec<u8>) -> Vec<u8> {
+    if chance.happens(1, 3) {
+        return damage::pieces(chance);
+    }
+    damage::shorthand(chance, &mut text);
+    text
+}
+
+pub(super) fn either_edition(chance: &mut Chance) -> u32 {
     chance.one_of(&[1057, 2539])
+}
+
+/// A number that is hardly ever an edition's.
+pub(super) fn strange_edition(chance: &mut Chance) -> u32 {
+    let near = [0, 1, 1056, 1058, 2538, 2540, 1057 + 65536, 2539 + 65536, 1057 << 16, u32::MAX, 0x8000_0000 + 1057];
+    if chance.happens(1, 2) {
+        chance.one_of(&near)
+    } else {
+        chance.number() as u32
+    }
 }
 
 /// Tapes at and over the limit, `size` of them.

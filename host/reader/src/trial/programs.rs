@@ -9,7 +9,7 @@ use crate::shorthand::{Dropped, ORDER};
 
 /// A word item as it was made.
 #[derive(Clone, Copy)]
-enum Made {
+pub(super) enum Made {
     Plain { digits: usize },
     Speed { digits: usize },
     Dimension { signed: bool, digits: usize, dropped: Dropped },
@@ -23,8 +23,8 @@ pub struct Plan {
     pub text: Vec<u8>,
     /// the digits of a sequence number
     pub sequence: usize,
-    tabs: bool,
-    items: Vec<(u8, Made)>,
+    pub(super) tabs: bool,
+    pub(super) items: Vec<(u8, Made)>,
 }
 
 /// A sound shorthand of either edition.
