@@ -261,28 +261,29 @@ static void test_speeds(void) {
 }
 
 /* The byte that a lent buffer has at `at` before a call. */
-static uint8_t before(size_t at) {
-    return (uint8_t)(90 + at);
+static uint8_t before(uint64_t first, size_t at) {
+    return (uint8_t)(first + at);
 }
 
-static uint8_t *lend_buffer(struct lent memory, size_t length) {
+static uint8_t *lend_buffer(struct lent memory, size_t length, uint64_t first) {
     uint8_t *buffer = last(memory, length);
     for (size_t at = 0; at < length; at += 1) {
-        buffer[at] = before(at);
+        buffer[at] = before(first, at);
     }
     return buffer;
 }
 
 static void test_heads(struct lent memory) {
+    enum { BEFORE = 90 };
     expect("a head nowhere", punch_head(NULL, 0), 19, 2, 0);
     expect("a head in an empty slice", punch_head(memory.end, 0), 19, 2, 0);
     for (size_t length = 1; length <= 16; length += 1) {
-        uint8_t *buffer = lend_buffer(memory, length);
+        uint8_t *buffer = lend_buffer(memory, length, BEFORE);
         int fits = length >= 2;
         expect("a head", punch_head(buffer, length), fits ? 0 : 19, fits ? 0 : 2, fits ? 2 : 0);
         expect_true("the head's rows", !fits || (buffer[0] == 165 && buffer[1] == 10));
         for (size_t at = fits ? 2 : 0; at < length; at += 1) {
-            expect_true("a row past the head was changed", buffer[at] == before(at));
+            expect_true("a row past the head was changed", buffer[at] == before(BEFORE, at));
         }
     }
 }
@@ -439,7 +440,7 @@ static void serve_one(struct desk *desk, const uint64_t *request) {
         break;
     case HEAD: {
         size_t length = (size_t)request[FIRST];
-        uint8_t *buffer = lend_buffer(desk->tape, length);
+        uint8_t *buffer = lend_buffer(desk->tape, length, request[SECOND]);
         put_answer(punch_head(buffer, length), 0);
         put(buffer, length);
         break;

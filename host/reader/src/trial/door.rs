@@ -63,7 +63,7 @@ fn frame(frames: &mut Vec<u8>, ask: &Ask, repeats: u64) {
         }
         Ask::Speed { digits, code } => put([2, u64::from(*digits), *code, 0, 0]),
         Ask::Code { digits, speed } => put([3, u64::from(*digits), *speed, 0, 0]),
-        Ask::Head { length } => put([4, *length as u64, 0, 0, 0]),
+        Ask::Head { length, first } => put([4, *length as u64, u64::from(*first), 0, 0]),
     }
 }
 
@@ -74,7 +74,7 @@ fn served(answers: &mut impl Read, ask: &Ask) -> io::Result<Served> {
     };
     let (refusal, place, value, nanoseconds) = (number()?, number()?, number()?, number()?);
     let mut buffer = Vec::new();
-    if let Ask::Head { length } = ask {
+    if let Ask::Head { length, .. } = ask {
         buffer.resize(*length, 0);
         answers.read_exact(&mut buffer)?;
     }

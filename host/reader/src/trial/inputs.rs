@@ -36,6 +36,8 @@ pub enum Ask {
     Head {
         /// how many rows it has
         length: usize,
+        /// its first row before the call
+        first: u8,
     },
 }
 
@@ -60,6 +62,11 @@ pub struct Input {
     pub known: Option<Answer>,
 }
 
+/// A buffer as it is lent: each row is one more than the row before it.
+pub fn lent(length: usize, first: u8) -> Vec<u8> {
+    (0..length).map(|at| first.wrapping_add(at as u8)).collect()
+}
+
 impl Answer {
     fn of(result: Result<u64, Refusal>) -> Answer {
         let (number, place, value) = match result {
@@ -77,9 +84,8 @@ impl Ask {
             Ask::Count { edition, shorthand, tape } => Answer::of(count_blocks(*edition, shorthand, tape)),
             Ask::Speed { digits, code } => Answer::of(speeds::speed_of(*digits, *code)),
             Ask::Code { digits, speed } => Answer::of(speeds::code_of(*digits, *speed)),
-            Ask::Head { length } => {
-                // the C host lends a buffer with these bytes in it
-                let mut buffer: Vec<u8> = (0..*length).map(|at| (90 + at) as u8).collect();
+            Ask::Head { length, first } => {
+                let mut buffer = lent(*length, *first);
                 let result = punching::punch_head(&mut buffer);
                 Answer { buffer, ..Answer::of(result) }
             }
@@ -327,7 +333,7 @@ fn texts(bytes: &[u8], most: usize) -> Vec<Vec<u8>> {
 /// Codes, speeds and heads: all edges, and `size` random ones.
 pub fn numbers(seed: u64, size: usize) -> Vec<Input> {
     let chance = &mut Chance::new(seed);
-    let mut inputs: Vec<Input> = (0..=64).map(|length| Input::of(Ask::Head { length })).collect();
+    let mut inputs: Vec<Input> = (0..=64).map(|length| Input::of(Ask::Head { length, first: 90 })).collect();
     let lengths = [0, 1, 2, 3, 4, 5, 6, 7, 1 << 31, u32::MAX, (1 << 16) + 3];
     let mut edges = vec![u64::MAX, u64::MAX - 1, 1 << 63, 1 << 32];
     for power in 0..20 {
@@ -348,11 +354,17 @@ pub fn numbers(seed: u64, size: usize) -> Vec<Input> {
 fn random_number(chance: &mut Chance) -> Ask {
     let digits = 3 + chance.below(3) as u32;
     let bits = chance.below(64);
-    if chance.happens(1, 2) {
-        Ask::Code { digits, speed: chance.number() >> bits }
-    } else {
-        Ask::Speed { digits, code: chance.number() % 10u64.pow(digits) }
+    match chance.below(8) {
+        0 => Ask::Head { length: room(chance), first: chance.below(256) as u8 },
+        1..=3 => Ask::Code { digits, speed: chance.number() >> bits },
+        _ => Ask::Speed { digits, code: chance.number() % 10u64.pow(digits) },
     }
+}
+
+/// Mostly a few rows.
+fn room(chance: &mut Chance) -> usize {
+    let most = chance.one_of(&[4, 16, 300]);
+    chance.below(most)
 }
 
 /// Standard inputs of the listing program, `size` of them.
@@ -434,7 +446,7 @@ impl fmt::Display for Ask {
             }
             Ask::Speed { digits, code } => write!(to, "the speed of code {code} in {digits} digits"),
             Ask::Code { digits, speed } => write!(to, "the code of {speed} units in {digits} digits"),
-            Ask::Head { length } => write!(to, "the head into {length} rows"),
+            Ask::Head { length, first } => write!(to, "the head into {length} rows, {first} and on"),
         }
     }
 }

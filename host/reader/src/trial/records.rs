@@ -371,11 +371,12 @@ mod tests {
     use super::*;
     use crate::punching::punch_head;
     use crate::reading::{block_rows, read_block};
+    use crate::trial::inputs::lent;
     use crate::{punch_block, shorthand};
 
     /// The old content of a lent buffer, and what the punching answers and leaves.
     fn punched(handed: &Handed) -> (Vec<u8>, Result<u64, Refusal>, Vec<u8>) {
-        let before: Vec<u8> = (0..handed.room).map(|at| handed.first.wrapping_add(at as u8)).collect();
+        let before = lent(handed.room, handed.first);
         let mut buffer = before.clone();
         let answer = punch_block(handed.edition, &handed.shorthand, &handed.record, &mut buffer);
         (before, answer, buffer)

@@ -1,0 +1,116 @@
+//! Through the C host: block counts, coded speeds and the head.
+
+use super::{add, seen, seldom, worker_failed, Batch, Order, Seen, Turns, PRINTED};
+use second_opinion::trial::door::Door;
+use second_opinion::trial::inputs::{self, Answer, Ask, Input};
+use std::error::Error;
+use std::io;
+use std::sync::Mutex;
+
+/// How many inputs one seed settles.
+const BATCH: usize = 500;
+/// How many tapes at and over the row limit are tried, and how many of them one seed settles.
+const LONG: usize = 64;
+const LONG_BATCH: usize = 8;
+/// How often each refusal of a tape or shorthand must be seen.
+const LEAST: u64 = 50;
+const REFUSALS: &[usize] = &[1, 2, 3, 4, 5, 6, 7, 8, 9, 10, 11, 12, 13, 14];
+
+pub fn compare(order: &Order) -> Result<bool, Box<dyn Error>> {
+    let batches = batches(order.inputs);
+    order.say_seeds(&batches);
+    let turns = Turns::over(&batches);
+    let tally = Mutex::new(Tally::default());
+    let well = order.at_once(|| work(order, &turns, &tally))?.into_iter().all(|well| well);
+    if !well {
+        println!("the C host ended badly");
+    }
+    let tally = tally.into_inner()?;
+    Ok(tally.report() && well)
+}
+
+/// The batches, each made when its turn comes: tapes, long tapes, numbers, and what is tried exhaustively.
+fn batches(inputs: usize) -> Vec<Batch<'static, Input>> {
+    let mut batches: Vec<Batch<Input>> = Vec::new();
+    for first in (0..inputs).step_by(BATCH) {
+        batches.push(Box::new(move |seed| inputs::tapes(seed, BATCH.min(inputs - first))));
+    }
+    for _ in 0..LONG / LONG_BATCH {
+        batches.push(Box::new(|seed| inputs::long_tapes(seed, LONG_BATCH)));
+    }
+    batches.push(Box::new(move |seed| inputs::numbers(seed, inputs / 5)));
+    for start in inputs::SHORTHAND_STARTS {
+        batches.push(Box::new(|_| inputs::short_shorthands(start)));
+    }
+    for start in inputs::TAPE_STARTS {
+        batches.push(Box::new(|_| inputs::short_tapes(start)));
+    }
+    batches
+}
+
+/// Opens a door and asks batch after batch; says whether the C host ended well.
+fn work(order: &Order, turns: &Turns<Batch<Input>>, tally: &Mutex<Tally>) -> io::Result<bool> {
+    let mut door = Door::open(&order.command)?;
+    while let Some((at, make)) = turns.take() {
+        let batch = make(order.seed + at as u64);
+        let served = door.ask(batch.iter().map(|input| &input.ask), 0)?;
+        let mut own = Tally::default();
+        for (input, served) in batch.iter().zip(served) {
+            own.take(input, &served.answer);
+        }
+        tally.lock().map_err(|_| worker_failed())?.add(&own);
+    }
+    door.close()
+}
+
+/// What was seen through the C host.
+#[derive(Default)]
+struct Tally {
+    tapes: Seen,
+    numbers: Seen,
+    odd_holes: u64,
+    differences: u64,
+}
+
+impl Tally {
+    fn take(&mut self, input: &Input, door: &Answer) {
+        let reader = input.ask.answer();
+        let seen = match input.ask {
+            Ask::Count { .. } => &mut self.tapes,
+            _ => &mut self.numbers,
+        };
+        if let Some(count) = seen.get_mut(reader.number as usize) {
+            *count += 1;
+        }
+        let known = input.known.as_ref();
+        self.odd_holes += u64::from(known.is_some_and(|known| known.number == 5));
+        if *door == reader && known.is_none_or(|known| *known == reader) {
+            return;
+        }
+        self.differences += 1;
+        if self.differences <= PRINTED {
+            println!("DIFFERENCE\n{}", input.ask);
+            println!("library: {door}\nreader:  {reader}");
+            if let Some(known) = known {
+                println!("making:  {known}");
+            }
+        }
+    }
+
+    fn add(&mut self, other: &Tally) {
+        add(&mut self.tapes, &other.tapes);
+        add(&mut self.numbers, &other.numbers);
+        self.odd_holes += other.odd_holes;
+        self.differences += other.differences;
+    }
+
+    fn report(&self) -> bool {
+        let total = |seen: &Seen| seen.iter().sum::<u64>();
+        println!("tapes and shorthands: {}, seen {}", total(&self.tapes), seen(&self.tapes));
+        println!("speeds, codes and heads: {}, seen {}", total(&self.numbers), seen(&self.numbers));
+        println!("odd holes in rows of a sound tape: {}, each 5 at the first of them", self.odd_holes);
+        let rare = seldom(&self.tapes, REFUSALS, LEAST);
+        println!("{} differences", self.differences);
+        self.differences == 0 && !rare
+    }
+}

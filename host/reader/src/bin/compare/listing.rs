@@ -1,0 +1,53 @@
+//! By the listing program: what it prints for each input.
+
+use super::{seen, worker_failed, Order, Seen, Turns, PRINTED};
+use second_opinion::listing::listing;
+use second_opinion::trial::inputs;
+use std::error::Error;
+use std::sync::Mutex;
+
+pub fn compare(order: &Order) -> Result<bool, Box<dyn Error>> {
+    println!("seed {}", order.seed);
+    let all = inputs::listings(order.seed, order.inputs);
+    let turns = Turns::over(&all);
+    let tally = Mutex::new(Tally::default());
+    order.at_once(|| {
+        while let Some((_, (input, known))) = turns.take() {
+            let found = order.run(input)?.stdout;
+            tally.lock().map_err(|_| worker_failed())?.take(input, known, &found);
+        }
+        Ok(())
+    })?;
+    let tally = tally.into_inner()?;
+    println!("listings: {} compared, seen {}, {} differences", tally.compared, seen(&tally.seen), tally.differences);
+    Ok(tally.differences == 0 && tally.compared == order.inputs as u64)
+}
+
+/// What was seen of the listing program.
+#[derive(Default)]
+struct Tally {
+    compared: u64,
+    seen: Seen,
+    differences: u64,
+}
+
+impl Tally {
+    fn take(&mut self, input: &[u8], known: &Option<String>, found: &[u8]) {
+        let reader = listing(input);
+        self.compared += 1;
+        let number = reader.strip_prefix("refused ").and_then(|rest| rest.split(' ').next()?.parse().ok());
+        self.seen[number.unwrap_or(0)] += 1;
+        if found == reader.as_bytes() && known.as_ref().is_none_or(|known| *known == reader) {
+            return;
+        }
+        self.differences += 1;
+        if self.differences <= PRINTED {
+            println!("DIFFERENCE\ninput of {} bytes: {}", input.len(), inputs::readable(input));
+            println!("input in hex: {}", inputs::hex(input));
+            println!("program: {}\nreader:  {}", found.escape_ascii(), reader.escape_debug());
+            if let Some(known) = known {
+                println!("making:  {}", known.escape_debug());
+            }
+        }
+    }
+}
