@@ -1,8 +1,10 @@
-//! What the comparison needs: chance from a seed, tapes and records made and damaged, and the pipe to the C host.
+//! What the comparison needs: chance from a seed, tapes and records made and damaged, the pipe to
+//! the C host, and the lines that ask the library.
 
 pub mod chance;
 pub mod damage;
 pub mod door;
 pub mod inputs;
+pub mod lines;
 pub mod programs;
 pub mod records;

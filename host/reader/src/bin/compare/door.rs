@@ -1,6 +1,6 @@
 //! Through the C host: block counts, coded speeds and the head.
 
-use super::{add, seen, seldom, worker_failed, Batch, Order, Seen, Turns, PRINTED};
+use super::{add, seen, seen_often, worker_failed, Batch, Order, Seen, Turns, PRINTED};
 use second_opinion::trial::door::Door;
 use second_opinion::trial::inputs::{self, Answer, Ask, Input};
 use std::error::Error;
@@ -109,8 +109,8 @@ impl Tally {
         println!("tapes and shorthands: {}, seen {}", total(&self.tapes), seen(&self.tapes));
         println!("speeds, codes and heads: {}, seen {}", total(&self.numbers), seen(&self.numbers));
         println!("odd holes in rows of a sound tape: {}, each 5 at the first of them", self.odd_holes);
-        let rare = seldom(&self.tapes, REFUSALS, LEAST);
+        let often = seen_often("tapes and shorthands", &self.tapes, REFUSALS, LEAST);
         println!("{} differences", self.differences);
-        self.differences == 0 && !rare
+        self.differences == 0 && often
     }
 }

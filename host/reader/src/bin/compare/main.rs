@@ -1,7 +1,8 @@
-//! Compares the proved library with the second reader: through the C host, or by the listing program.
+//! Compares the proved library with the second reader: through the C host, by the listing program, or line by line.
 
 mod door;
 mod listing;
+mod vectors;
 
 use std::error::Error;
 use std::io::{self, Write};
@@ -9,7 +10,7 @@ use std::process::{Command, ExitCode, Output, Stdio};
 use std::sync::atomic::{AtomicUsize, Ordering};
 use std::thread;
 
-const USAGE: &str = "usage: compare door|listing [--inputs N] [--seed N] [--jobs N] -- COMMAND...";
+const USAGE: &str = "usage: compare door|listing|vectors [--inputs N] [--seed N] [--jobs N] -- COMMAND...";
 /// How many differences are printed.
 const PRINTED: u64 = 5;
 
@@ -42,6 +43,7 @@ struct Way {
 const WAYS: &[Way] = &[
     Way { name: "door", inputs: 100_000, compare: door::compare },
     Way { name: "listing", inputs: 3_000, compare: listing::compare },
+    Way { name: "vectors", inputs: 100_000, compare: vectors::compare },
 ];
 
 struct Order {
@@ -136,11 +138,11 @@ fn add(counts: &mut Seen, more: &Seen) {
     counts.iter_mut().zip(more).for_each(|(count, more)| *count += more);
 }
 
-/// Those of `numbers` that were seen too seldom, said where there are any.
-fn seldom(counts: &Seen, numbers: &[usize], least: u64) -> bool {
+/// Whether each of `numbers` was seen often enough; says which were not.
+fn seen_often(what: &str, counts: &Seen, numbers: &[usize], least: u64) -> bool {
     let rare: Vec<&usize> = numbers.iter().filter(|&&number| counts[number] < least).collect();
     if !rare.is_empty() {
-        println!("seen fewer than {least} times: {rare:?}");
+        println!("{what}: seen fewer than {least} times: {rare:?}");
     }
-    !rare.is_empty()
+    rare.is_empty()
 }

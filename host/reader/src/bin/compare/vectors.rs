@@ -1,0 +1,116 @@
+//! Line by line: what the program `vectors` answers for records, tapes, shorthands, speeds and heads.
+
+use super::{add, seen, seen_often, worker_failed, Batch, Order, Seen, Turns, PRINTED};
+use second_opinion::trial::lines::{self, Posed};
+use std::collections::BTreeMap;
+use std::error::Error;
+use std::io;
+use std::sync::Mutex;
+
+/// How many lines the program is started for, as an emulated one takes long to start.
+const BATCH: usize = 10_000;
+/// What must be seen of the answers to a kind of line, and how often.
+const LEAST: &[(u8, &[usize], u64)] =
+    &[(b'J', &[0, 1, 2, 3, 16, 17, 18, 19], 500), (b'W', &[0, 15], 100), (b'P', &[0, 15], 100), (b'F', &[0, 1, 2, 3], 100)];
+
+pub fn compare(order: &Order) -> Result<bool, Box<dyn Error>> {
+    let batches = batches(order.inputs);
+    order.say_seeds(&batches);
+    let turns = Turns::over(&batches);
+    let tally = Mutex::new(Tally::default());
+    order.at_once(|| {
+        while let Some((at, make)) = turns.take() {
+            let own = ask(order, &make(order.seed + at as u64))?;
+            tally.lock().map_err(|_| worker_failed())?.add(&own);
+        }
+        Ok(())
+    })?;
+    Ok(tally.into_inner()?.report())
+}
+
+/// The batches, each made when its turn comes: records, and a part as many tapes, shorthands and numbers.
+fn batches(records: usize) -> Vec<Batch<'static, Posed>> {
+    let mut batches: Vec<Batch<Posed>> =
+        vec![Box::new(|_| lines::edges()), Box::new(move |seed| lines::numbers(seed, records / 5))];
+    for (make, size) in
+        [(lines::punchings as fn(u64, usize) -> Vec<Posed>, records), (lines::tapes, records / 5), (lines::formats, records / 20)]
+    {
+        for first in (0..size).step_by(BATCH) {
+            batches.push(Box::new(move |seed| make(seed, BATCH.min(size - first))));
+        }
+    }
+    batches
+}
+
+/// Asks a batch of lines and compares what comes back.
+fn ask(order: &Order, batch: &[Posed]) -> io::Result<Tally> {
+    let texts: Vec<Vec<u8>> = batch.iter().map(|posed| posed.line.text()).collect();
+    let output = order.run(&texts.iter().flat_map(|text| [text, &b"\n"[..]].concat()).collect::<Vec<u8>>())?;
+    let written: Vec<&[u8]> = output.stdout.split(|&byte| byte == b'\n').collect();
+    let mut tally = Tally::default();
+    // nothing stands behind the last line's end
+    if !output.status.success() || written.len() != texts.len() + 1 {
+        tally.differences += 1;
+        println!("DIFFERENCE\n{} lines were asked, {} came back, {}", texts.len(), written.len() - 1, output.status);
+    }
+    for ((posed, text), written) in batch.iter().zip(&texts).zip(written) {
+        tally.take(posed, text, written);
+    }
+    Ok(tally)
+}
+
+/// What was seen of the answers, by the letters of the lines.
+#[derive(Default)]
+struct Tally {
+    seen: BTreeMap<u8, Seen>,
+    unasked: u64,
+    differences: u64,
+}
+
+impl Tally {
+    fn take(&mut self, posed: &Posed, text: &[u8], written: &[u8]) {
+        let reply = posed.reply(text);
+        match &reply {
+            Some(reply) => self.seen.entry(text[0]).or_default()[reply.number as usize] += 1,
+            None => self.unasked += 1,
+        }
+        let as_made = posed.known.is_none_or(|known| reply.as_ref().is_some_and(|reply| known == (reply.number, reply.place)));
+        let reader = lines::answered(text, reply.as_ref());
+        if written == reader && as_made {
+            return;
+        }
+        self.differences += 1;
+        if self.differences <= PRINTED {
+            let answer = |line: &[u8]| line.strip_prefix(text).unwrap_or(line).escape_ascii().to_string();
+            println!("DIFFERENCE\n{}", text.escape_ascii());
+            println!("library: {}\nreader:  {}", answer(written), answer(&reader));
+            if let Some((number, place)) = posed.known {
+                println!("making:   -> {number} {place}");
+            }
+        }
+    }
+
+    fn add(&mut self, other: &Tally) {
+        for (&letter, seen) in &other.seen {
+            add(self.seen.entry(letter).or_default(), seen);
+        }
+        self.unasked += other.unasked;
+        self.differences += other.differences;
+    }
+
+    fn report(&self) -> bool {
+        let mut well = self.differences == 0;
+        let mut total = self.unasked;
+        for (&letter, counts) in &self.seen {
+            let asked: u64 = counts.iter().sum();
+            println!("{}: {asked}, seen {}", char::from(letter), seen(counts));
+            total += asked;
+        }
+        for &(letter, numbers, least) in LEAST {
+            let counts = self.seen.get(&letter).copied().unwrap_or_default();
+            well &= seen_often(&char::from(letter).to_string(), &counts, numbers, least);
+        }
+        println!("{total} lines, {} differences", self.differences);
+        well
+    }
+}

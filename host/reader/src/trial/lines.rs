@@ -1,0 +1,446 @@
+//! Asking the library by lines of text, as crates/vectors/LINES.md has them, and what the reader answers.
+
+use super::chance::Chance;
+use super::inputs::{self, bad_text, either_edition, lent, strange_edition, Answer, Ask, Input};
+use super::programs;
+use super::records::{self, Handed};
+use crate::punching::{Record, Word, CLEARED};
+use crate::reading::{block_rows, read_block, Block, Opening, Value};
+use crate::rows::{punched, CR, DEL, HT, LF, NUL};
+use crate::shorthand::{parse, Dropped, Format, Item, Kind, Mark, Sign};
+use crate::{punch_block, Refusal};
+use std::fmt;
+
+/// A longer line is not asked.
+const MOST_BYTES: usize = 60_000;
+
+/// One line.
+pub enum Line {
+    /// B, S, C or H: what the C host is asked too
+    Call(Ask),
+    /// F: a shorthand's Format
+    Format {
+        /// its edition
+        edition: u32,
+        /// its text
+        shorthand: Vec<u8>,
+    },
+    /// W: block n as a record
+    Block(Nth),
+    /// P: the rows of block n
+    Rows(Nth),
+    /// J: a record punched
+    Punch(Box<Handed>),
+    /// a line that asks nothing
+    Remark(Vec<u8>),
+}
+
+/// A block of a tape.
+pub struct Nth {
+    /// the tape's edition
+    pub edition: u32,
+    /// its format
+    pub shorthand: Vec<u8>,
+    /// which block, from 0
+    pub n: u64,
+    /// the tape's rows
+    pub tape: Vec<u8>,
+}
+
+/// A line, with number and place of its answer where they are known from the making.
+pub struct Posed {
+    /// the line
+    pub line: Line,
+    /// what must begin the answer
+    pub known: Option<(u64, u64)>,
+}
+
+/// What is answered to a line.
+pub struct Reply {
+    /// 0 or a refusal
+    pub number: u64,
+    /// 0 or the refusal's place
+    pub place: u64,
+    /// what is handed back, on a refusal too
+    handed: String,
+}
+
+impl fmt::Display for Reply {
+    fn fmt(&self, to: &mut fmt::Formatter<'_>) -> fmt::Result {
+        write!(to, "{} {} {}", self.number, self.place, self.handed)
+    }
+}
+
+impl Line {
+    /// The line as it is asked.
+    pub fn text(&self) -> Vec<u8> {
+        match self {
+            Line::Call(Ask::Count { edition, shorthand, tape }) => judged('B', *edition, shorthand, &format!(" {}", asked(tape))),
+            Line::Call(Ask::Speed { digits, code }) => format!("S {digits} {code}").into_bytes(),
+            Line::Call(Ask::Code { digits, speed }) => format!("C {digits} {speed}").into_bytes(),
+            Line::Call(Ask::Head { length, first }) => format!("H {length} {first}").into_bytes(),
+            Line::Format { edition, shorthand } => judged('F', *edition, shorthand, ""),
+            Line::Block(nth) => nth.text('W'),
+            Line::Rows(nth) => nth.text('P'),
+            Line::Punch(handed) => {
+                let Handed { edition, shorthand, room, first, record } = &**handed;
+                judged('J', *edition, shorthand, &format!(" {room} {first} {}", record_text(record)))
+            }
+            Line::Remark(text) => text.clone(),
+        }
+    }
+
+    /// The reader's answer.
+    fn answer(&self) -> Option<Reply> {
+        Some(match self {
+            Line::Call(ask) => called(ask),
+            Line::Format { edition, shorthand } => {
+                let none = Format { sequence: 0, tabs: false, items: Vec::new() };
+                handed_back(parse(*edition, shorthand), none, format_text)
+            }
+            Line::Block(Nth { edition, shorthand, n, tape }) => {
+                let block = parse(*edition, shorthand).and_then(|format| read_block(&format, tape, *n));
+                let none = Block { opening: Opening { skip: false, alignment: false, sequence: 0 }, words: Vec::new() };
+                handed_back(block, none, |block| record_text(&Record::from(&block)))
+            }
+            Line::Rows(Nth { edition, shorthand, n, tape }) => {
+                let rows = parse(*edition, shorthand).and_then(|format| block_rows(&format, tape, *n));
+                handed_back(rows, &[], rows_text)
+            }
+            Line::Punch(handed) => {
+                let Handed { edition, shorthand, room, first, record } = &**handed;
+                let mut buffer = lent(*room, *first);
+                let count = punch_block(*edition, shorthand, record, &mut buffer);
+                handed_back(count, 0, |count| buffer_text(count, &buffer))
+            }
+            Line::Remark(_) => return None,
+        })
+    }
+}
+
+impl Nth {
+    fn text(&self, letter: char) -> Vec<u8> {
+        judged(letter, self.edition, &self.shorthand, &format!(" {} {}", self.n, asked(&self.tape)))
+    }
+}
+
+impl Posed {
+    fn of(line: Line) -> Posed {
+        Posed { line, known: None }
+    }
+
+    /// The reader's answer; none where nothing is asked. `text` is the line's.
+    pub fn reply(&self, text: &[u8]) -> Option<Reply> {
+        self.line.answer().filter(|_| text.len() <= MOST_BYTES)
+    }
+}
+
+/// What the program has to write for a line.
+pub fn answered(text: &[u8], reply: Option<&Reply>) -> Vec<u8> {
+    let mut line = text.to_vec();
+    if let Some(reply) = reply {
+        line.extend(format!(" -> {reply}").bytes());
+    }
+    line
+}
+
+fn called(ask: &Ask) -> Reply {
+    let Answer { number, place, value, buffer } = ask.answer();
+    let handed = if matches!(ask, Ask::Head { .. }) { buffer_text(value, &buffer) } else { value.to_string() };
+    Reply { number, place, handed }
+}
+
+/// The reply of `result`, with `none` handed back where it is refused.
+fn handed_back<T>(result: Result<T, Refusal>, none: T, text: impl Fn(T) -> String) -> Reply {
+    match result {
+        Ok(value) => Reply { number: 0, place: 0, handed: text(value) },
+        Err(Refusal { number, place }) => Reply { number: u64::from(number), place, handed: text(none) },
+    }
+}
+
+/// A line on what is judged by an edition and a shorthand, with `rest` behind them.
+fn judged(letter: char, edition: u32, shorthand: &[u8], rest: &str) -> Vec<u8> {
+    [format!("{letter} {edition} ").as_bytes(), shorthand, rest.as_bytes()].concat()
+}
+
+/// A tape as it is asked: the row of SP may stand as it is.
+fn asked(tape: &[u8]) -> String {
+    rows_text(tape).replace("\\160", " ")
+}
+
+fn rows_text(rows: &[u8]) -> String {
+    let mut text = String::with_capacity(2 * rows.len());
+    for &row in rows {
+        match character_text(row & 0x7F) {
+            Some(character) if row == punched(row & 0x7F) => text.push(character),
+            _ => text += &format!("\\{row:03}"),
+        }
+    }
+    text
+}
+
+/// How the notation has a character, if it does.
+fn character_text(character: u8) -> Option<char> {
+    match character {
+        LF => Some('~'),
+        HT => Some('^'),
+        NUL => Some('_'),
+        DEL => Some('`'),
+        CR => Some('&'),
+        b'~' | b'^' | b'_' | b'`' | b'&' | b'?' | b'\\' => None,
+        b'!'..=b'~' => Some(character as char),
+        _ => None,
+    }
+}
+
+/// The number of rows written, and the whole buffer.
+fn buffer_text(count: u64, buffer: &[u8]) -> String {
+    format!("{count} {}", rows_text(buffer))
+}
+
+/// A record, with the places behind its count up to the last one that is not cleared.
+fn record_text(record: &Record) -> String {
+    let Opening { skip, alignment, sequence } = record.opening;
+    let skip = if skip { '/' } else { '-' };
+    let letter = if alignment { ':' } else { 'N' };
+    let mut text = format!("{skip} {letter} {sequence} {}", record.count);
+    let last = record.places.iter().rposition(|&place| place != CLEARED).map_or(0, |last| last + 1);
+    let counted = usize::try_from(record.count).unwrap_or(usize::MAX).min(record.places.len());
+    for &word in &record.places[..last.max(counted)] {
+        text += &format!(" {}", word_text(word));
+    }
+    text
+}
+
+fn word_text((letter, value): Word) -> String {
+    let letter = if letter.is_ascii_uppercase() { char::from(letter).to_string() } else { format!("#{letter}") };
+    match value {
+        Value::Plain(number) => format!("{letter}N{number}"),
+        Value::Speed(speed) => format!("{letter}S{speed}"),
+        Value::Dimension(number) => format!("{letter}D{number}"),
+    }
+}
+
+fn format_text(format: Format) -> String {
+    let dots = if format.tabs { "dots" } else { "plain" };
+    let mut text = format!("{} {dots} {}", format.sequence, format.items.len());
+    for item in &format.items {
+        text += &format!(" {}", item_text(item));
+    }
+    text
+}
+
+fn item_text(item: &Item) -> String {
+    let letter = char::from(item.letter);
+    match item.kind {
+        Kind::Plain => format!("{letter}P{}", item.most),
+        Kind::Speed => format!("{letter}S{}", item.most),
+        Kind::Dimension { mark, before, dropped } => {
+            let mark = match mark {
+                Mark::Bare => '.',
+                Mark::Absolute => '+',
+                Mark::Incremental => 'D',
+            };
+            let missing = match dropped {
+                Dropped::None => '=',
+                Dropped::Leading => 'L',
+                Dropped::Trailing => 'T',
+            };
+            let sign = if item.sign == Sign::Optional { 'b' } else { 's' };
+            format!("{letter}D{mark}{before}.{}{missing}{sign}", item.most - before)
+        }
+    }
+}
+
+/// `size` records to punch.
+pub fn punchings(seed: u64, size: usize) -> Vec<Posed> {
+    records::records(seed, size).into_iter().map(punching).collect()
+}
+
+fn punching((mut handed, known): (Handed, records::Known)) -> Posed {
+    make_sayable(&mut handed.shorthand);
+    let known = known.map(|known| match known {
+        Ok(_) => (0, 0),
+        Err(refusal) => (u64::from(refusal.number), refusal.place),
+    });
+    Posed { line: Line::Punch(Box::new(handed)), known }
+}
+
+/// Takes away what would end a damaged shorthand or its line.
+fn make_sayable(shorthand: &mut Vec<u8>) {
+    shorthand.retain(|byte| !matches!(byte, b' ' | b'\n'));
+}
+
+/// About `size` tapes: how many blocks, one of them, or its rows. Of a sound tape, all three.
+pub fn tapes(seed: u64, size: usize) -> Vec<Posed> {
+    let chance = &mut Chance::new(seed);
+    inputs::tapes(seed, size).into_iter().flat_map(|input| tape(chance, input)).collect()
+}
+
+fn tape(chance: &mut Chance, input: Input) -> Vec<Posed> {
+    let Ask::Count { edition, mut shorthand, tape } = input.ask else {
+        return vec![Posed::of(Line::Call(input.ask))];
+    };
+    make_sayable(&mut shorthand);
+    let mut nth = || Nth { edition, shorthand: shorthand.clone(), n: some_block(chance), tape: tape.clone() };
+    let mut lines = vec![Line::Block(nth()), Line::Rows(nth()), Line::Call(Ask::Count { edition, shorthand, tape })];
+    if input.known.is_none_or(|known| known.number != 0) {
+        lines = vec![lines.swap_remove(chance.below(3))];
+    }
+    lines.into_iter().map(Posed::of).collect()
+}
+
+/// A block that a tape may have, or none does.
+fn some_block(chance: &mut Chance) -> u64 {
+    match chance.below(32) {
+        0 => u64::MAX,
+        1 => 1 << 32,
+        2 => chance.number(),
+        3..=6 => chance.below(60) as u64,
+        _ => chance.below(5) as u64,
+    }
+}
+
+/// `size` shorthands: sound, damaged, cut, and by other editions.
+pub fn formats(seed: u64, size: usize) -> Vec<Posed> {
+    let chance = &mut Chance::new(seed);
+    (0..size).map(|_| Posed::of(format(chance))).collect()
+}
+
+fn format(chance: &mut Chance) -> Line {
+    let plan = programs::plan(chance);
+    let (mut edition, mut shorthand) = (plan.edition, plan.text);
+    match chance.below(8) {
+        0 => edition = strange_edition(chance),
+        1 => edition = either_edition(chance),
+        2 | 3 => shorthand = bad_text(chance, shorthand),
+        4 => shorthand.truncate(chance.below(shorthand.len())),
+        _ => {}
+    }
+    make_sayable(&mut shorthand);
+    Line::Format { edition, shorthand }
+}
+
+/// Codes, speeds and heads: all edges, and `size` random ones.
+pub fn numbers(seed: u64, size: usize) -> Vec<Posed> {
+    inputs::numbers(seed, size).into_iter().map(|input| Posed::of(Line::Call(input.ask))).collect()
+}
+
+/// Lines that ask nothing, and tapes whose lines are as long as may be, or one byte longer.
+pub fn edges() -> Vec<Posed> {
+    let remarks = ["", "#", "# a remark", " B 1057 N3* %~", "b 1057 N3* %~", "BB 1057 N3* %~", "B1057 N3* %~", "1 2", "~"];
+    let mut lines: Vec<Line> = remarks.iter().map(|text| Line::Remark(text.as_bytes().to_vec())).collect();
+    for bytes in [MOST_BYTES - 1, MOST_BYTES, MOST_BYTES + 1, 2 * MOST_BYTES, 5 * MOST_BYTES] {
+        let mut tape = vec![punched(b'%'), punched(LF)];
+        tape.resize(bytes - "B 1057 N3* ".len(), NUL);
+        lines.push(Line::Call(Ask::Count { edition: 1057, shorthand: b"N3*".to_vec(), tape }));
+    }
+    lines.into_iter().map(Posed::of).collect()
+}
+
+#[cfg(test)]
+mod tests {
+    use super::*;
+
+    const PLAIN: &str = "N3.G2.X+42.F3.M2*";
+    const SAMPLE: &str = "%\nN001\tG01\tX+012500\tF615\n/N002\t\tX-000250\n";
+
+    /// The whole line that has to be written for `line`.
+    fn written(line: Line) -> String {
+        let posed = Posed::of(line);
+        let text = posed.line.text();
+        String::from_utf8(answered(&text, posed.reply(&text).as_ref())).unwrap()
+    }
+
+    fn rows(text: &str) -> Vec<u8> {
+        text.bytes().map(punched).collect()
+    }
+
+    fn nth(n: u64) -> Nth {
+        Nth { edition: 1057, shorthand: PLAIN.into(), n, tape: rows(SAMPLE) }
+    }
+
+    fn format(edition: u32, shorthand: &str) -> String {
+        written(Line::Format { edition, shorthand: shorthand.into() })
+    }
+
+    fn punching(room: usize, sequence: u64, words: &[Word]) -> Line {
+        let opening = Opening { skip: false, alignment: true, sequence };
+        let record = Record::from(&Block { opening, words: words.to_vec() });
+        Line::Punch(Box::new(Handed { edition: 1057, shorthand: PLAIN.into(), room, first: 254, record }))
+    }
+
+    #[test]
+    fn blocks_of_the_sample() {
+        let spelt = "%~N001^G01^X+012500^F615~/N002^^X-000250~";
+        let asked = |letter: char, n: &str| format!("{letter} 1057 {PLAIN}{n} {spelt} -> ");
+        let count = Ask::Count { edition: 1057, shorthand: PLAIN.into(), tape: rows(SAMPLE) };
+        assert_eq!(written(Line::Call(count)), asked('B', "") + "0 0 2");
+        assert_eq!(written(Line::Block(nth(0))), asked('W', " 0") + "0 0 - N 1 3 GN1 XD12500 FS1500000000");
+        assert_eq!(written(Line::Block(nth(1))), asked('W', " 1") + "0 0 / N 2 1 XD-250");
+        assert_eq!(written(Line::Block(nth(2))), asked('W', " 2") + "15 2 - N 0 0");
+        assert_eq!(written(Line::Rows(nth(0))), asked('P', " 0") + "0 0 N001^G01^X+012500^F615~");
+        assert_eq!(written(Line::Rows(nth(1))), asked('P', " 1") + "0 0 /N002^^X-000250~");
+        assert_eq!(written(Line::Rows(nth(2))), asked('P', " 2") + "15 2 ");
+    }
+
+    #[test]
+    fn formats_of_the_rules() {
+        assert_eq!(format(1057, PLAIN), "F 1057 N3.G2.X+42.F3.M2* -> 0 0 3 dots 4 GP2 XD+4.2=s FS3 MP2");
+        assert_eq!(format(2539, "N9X+042Y420ZD10*"), "F 2539 N9X+042Y420ZD10* -> 0 0 9 plain 3 XD+4.2Lb YD.4.2Ts ZDD1.0=b");
+        assert_eq!(format(2539, "N3X+040*"), "F 2539 N3X+040* -> 2 2 0 plain 0");
+        assert_eq!(format(1057, "N3.X+042*"), "F 1057 N3.X+042* -> 3 2 0 plain 0");
+        assert_eq!(format(1, ""), "F 1  -> 1 0 0 plain 0");
+    }
+
+    #[test]
+    fn punchings_and_buffers() {
+        let (g, x) = ((b'G', Value::Plain(1)), (b'X', Value::Dimension(-250)));
+        let asked = |room: usize, rest: &str| format!("J 1057 {PLAIN} {room} 254 - : {rest}");
+        assert_eq!(written(punching(17, 1, &[x])), asked(17, "1 1 XD-250 -> 0 0 15 :001^^X-000250~\\013\\014"));
+        assert_eq!(written(punching(15, 1, &[x])), asked(15, "1 1 XD-250 -> 0 0 15 :001^^X-000250~"));
+        assert_eq!(written(punching(3, 1, &[x])), asked(3, "1 1 XD-250 -> 19 15 0 \\254`_"));
+        assert_eq!(written(punching(1, 1_000, &[])), asked(1, "1000 0 -> 17 0 0 \\254"));
+        assert_eq!(written(punching(1, 1, &[x, g])), asked(1, "1 2 XD-250 GN1 -> 16 2 0 \\254"));
+        assert_eq!(written(punching(1, 1, &[CLEARED])), asked(1, "1 1 #0N0 -> 16 1 0 \\254"));
+        assert_eq!(written(punching(1, 1, &[(b'F', Value::Speed(999))])), asked(1, "1 1 FS999 -> 18 1 0 \\254"));
+    }
+
+    #[test]
+    fn rubbish_behind_the_count() {
+        let mut record = Record::from(&Block { opening: Opening { skip: true, alignment: false, sequence: 7 }, words: vec![] });
+        assert_eq!(record_text(&record), "/ N 7 0");
+        record.places[1] = (200, Value::Plain(7));
+        assert_eq!(record_text(&record), "/ N 7 0 #0N0 #200N7");
+        record.count = 3;
+        assert_eq!(record_text(&record), "/ N 7 3 #0N0 #200N7 #0N0");
+    }
+
+    #[test]
+    fn numbers_and_heads() {
+        assert_eq!(written(Line::Call(Ask::Speed { digits: 3, code: 717 })), "S 3 717 -> 0 0 17000000000");
+        assert_eq!(written(Line::Call(Ask::Speed { digits: 3, code: 100 })), "S 3 100 -> 13 0 0");
+        assert_eq!(written(Line::Call(Ask::Code { digits: 4, speed: 152_500_000 })), "C 4 152500000 -> 0 0 5153");
+        assert_eq!(written(Line::Call(Ask::Head { length: 4, first: 9 })), "H 4 9 -> 0 0 2 %~\\011\\012");
+        assert_eq!(written(Line::Call(Ask::Head { length: 1, first: 9 })), "H 1 9 -> 19 2 0 ^");
+    }
+
+    #[test]
+    fn rows_as_text() {
+        assert_eq!(rows_text(&rows("%\n\t\0\x7F\r(A B)")), "%~^_`&(A\\160B)");
+        assert_eq!(asked(&rows("(A B)")), "(A B)");
+        // odd rows, an even one without a sign, and the notation's own signs
+        assert_eq!(rows_text(&[37, 1, 3, punched(b'~'), punched(b'?'), punched(b'\\')]), "\\037\\001\\003\\126\\063\\092");
+        assert_eq!(rows_text(&[33, 225]), "!a");
+    }
+
+    #[test]
+    fn lines_that_are_not_asked() {
+        assert_eq!(written(Line::Remark(b"# X".to_vec())), "# X");
+        for posed in edges() {
+            let text = posed.line.text();
+            let reply = posed.reply(&text);
+            assert_eq!(reply.is_some(), text.starts_with(b"B 1057 ") && text.len() <= MOST_BYTES);
+        }
+    }
+}
