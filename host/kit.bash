@@ -1,4 +1,4 @@
-# What host/check and host/bench share: where things are, and how the C host is built and run.
+# What the scripts of this folder share: where things are, and how the C host is built and run.
 # HOST_CC names another compiler that builds for x86-64, HOST_RUN what such a program is run with.
 
 host=$(cd "$(dirname "${BASH_SOURCE[0]}")" && pwd -P)
@@ -47,8 +47,9 @@ build_archive() {
     (cd "$root" && rt staticlib crumbtrellis) && [ -f "$archive" ]
 }
 
-build_listing() {
-    (cd "$root" && rt check listing) && [ -f "$root/target/bin/listing" ]
+# Proves the program NAME, where it or what it rests on has changed, and builds it.
+build_program() { # NAME
+    (cd "$root" && rt check "$1") && [ -f "$root/target/bin/$1" ]
 }
 
 # Builds the C program SOURCE, with the archive, as PROGRAM.
