@@ -33,7 +33,7 @@ fn batches(records: usize) -> Vec<Batch<'static, Posed>> {
     let mut batches: Vec<Batch<Posed>> =
         vec![Box::new(|_| lines::edges()), Box::new(move |seed| lines::numbers(seed, records / 5))];
     for (make, size) in
-        [(lines::punchings as fn(u64, usize) -> Vec<Posed>, records), (lines::tapes, records / 5), (lines::formats, records / 20)]
+        [(lines::punchings as fn(u64, usize) -> Vec<Posed>, records), (lines::tapes, records / 5), (lines::formats, records / 10)]
     {
         for first in (0..size).step_by(BATCH) {
             batches.push(Box::new(move |seed| make(seed, BATCH.min(size - first))));
