@@ -1,7 +1,7 @@
-//! A second opinion on Crumbtrellis: a reader of eight-track NC tapes written from the rules alone.
+//! A second opinion on Crumbtrellis: a reader and punch of eight-track NC tapes written from the rules alone.
 //!
 //! It shares no code with the proved library. The module `trial` holds what the comparison needs: the
-//! generator of tapes, the damage done to them, and the pipe to the C host.
+//! generators of tapes and records, the damage done to them, the pipe to the C host, and the lines that ask the library.
 
 #![forbid(unsafe_code)]
 #![warn(missing_docs)]

@@ -1,6 +1,6 @@
 //! Through the C host: block counts, coded speeds and the head.
 
-use super::{add, seen, seen_often, worker_failed, Batch, Order, Seen, Turns, PRINTED};
+use super::{add, seen, seen_often, tell, worker_failed, Batch, Order, Seen, Turns};
 use second_opinion::trial::door::Door;
 use second_opinion::trial::inputs::{self, Answer, Ask, Input};
 use std::error::Error;
@@ -88,13 +88,7 @@ impl Tally {
             return;
         }
         self.differences += 1;
-        if self.differences <= PRINTED {
-            println!("DIFFERENCE\n{}", input.ask);
-            println!("library: {door}\nreader:  {reader}");
-            if let Some(known) = known {
-                println!("making:  {known}");
-            }
-        }
+        tell(format_args!("{}\nlibrary: {door}\nreader:  {reader}", input.ask), known);
     }
 
     fn add(&mut self, other: &Tally) {

@@ -1,6 +1,6 @@
 //! By the listing program: what it prints for each input.
 
-use super::{seen, worker_failed, Order, Seen, Turns, PRINTED};
+use super::{seen, tell, worker_failed, Order, Seen, Turns};
 use second_opinion::listing::listing;
 use second_opinion::trial::inputs;
 use std::error::Error;
@@ -41,13 +41,16 @@ impl Tally {
             return;
         }
         self.differences += 1;
-        if self.differences <= PRINTED {
-            println!("DIFFERENCE\ninput of {} bytes: {}", input.len(), inputs::readable(input));
-            println!("input in hex: {}", inputs::hex(input));
-            println!("program: {}\nreader:  {}", found.escape_ascii(), reader.escape_debug());
-            if let Some(known) = known {
-                println!("making:  {}", known.escape_debug());
-            }
-        }
+        tell(
+            format_args!(
+                "input of {} bytes: {}\ninput in hex: {}\nprogram: {}\nreader:  {}",
+                input.len(),
+                inputs::readable(input),
+                inputs::hex(input),
+                found.escape_ascii(),
+                reader.escape_debug()
+            ),
+            known.as_ref().map(|known| known.escape_debug()),
+        );
     }
 }

@@ -5,6 +5,7 @@ mod listing;
 mod vectors;
 
 use std::error::Error;
+use std::fmt;
 use std::io::{self, Write};
 use std::process::{Command, ExitCode, Output, Stdio};
 use std::sync::atomic::{AtomicUsize, Ordering};
@@ -12,7 +13,7 @@ use std::thread;
 
 const USAGE: &str = "usage: compare door|listing|vectors [--inputs N] [--seed N] [--jobs N] -- COMMAND...";
 /// How many differences are printed.
-const PRINTED: u64 = 5;
+const PRINTED: usize = 5;
 
 fn main() -> ExitCode {
     match Order::given().and_then(|order| (order.way.compare)(&order)) {
@@ -124,6 +125,15 @@ impl<'a, T> Turns<'a, T> {
     fn take(&self) -> Option<(usize, &'a T)> {
         let at = self.next.fetch_add(1, Ordering::Relaxed);
         self.all.get(at).map(|one| (at, one))
+    }
+}
+
+/// Prints a difference, and what is known from the making; no more of them than are worth reading.
+fn tell(difference: fmt::Arguments, making: Option<impl fmt::Display>) {
+    static TOLD: AtomicUsize = AtomicUsize::new(0);
+    if TOLD.fetch_add(1, Ordering::Relaxed) < PRINTED {
+        let making = making.map_or(String::new(), |making| format!("\nmaking:  {making}"));
+        println!("DIFFERENCE\n{difference}{making}");
     }
 }
 

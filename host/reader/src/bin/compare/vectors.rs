@@ -1,6 +1,6 @@
 //! Line by line: what the program `vectors` answers for records, tapes, shorthands, speeds and heads.
 
-use super::{add, seen, seen_often, worker_failed, Batch, Order, Seen, Turns, PRINTED};
+use super::{add, seen, seen_often, tell, worker_failed, Batch, Order, Seen, Turns};
 use second_opinion::trial::lines::{self, Posed};
 use std::collections::BTreeMap;
 use std::error::Error;
@@ -51,7 +51,7 @@ fn ask(order: &Order, batch: &[Posed]) -> io::Result<Tally> {
     // nothing stands behind the last line's end
     if !output.status.success() || written.len() != texts.len() + 1 {
         tally.differences += 1;
-        println!("DIFFERENCE\n{} lines were asked, {} came back, {}", texts.len(), written.len() - 1, output.status);
+        println!("{} lines were asked, {} came back, {}", texts.len(), written.len() - 1, output.status);
     }
     for ((posed, text), written) in batch.iter().zip(&texts).zip(written) {
         tally.take(posed, text, written);
@@ -80,14 +80,11 @@ impl Tally {
             return;
         }
         self.differences += 1;
-        if self.differences <= PRINTED {
-            let answer = |line: &[u8]| line.strip_prefix(text).unwrap_or(line).escape_ascii().to_string();
-            println!("DIFFERENCE\n{}", text.escape_ascii());
-            println!("library: {}\nreader:  {}", answer(written), answer(&reader));
-            if let Some((number, place)) = posed.known {
-                println!("making:   -> {number} {place}");
-            }
-        }
+        let answer = |line: &[u8]| line.strip_prefix(text).unwrap_or(line).escape_ascii().to_string();
+        tell(
+            format_args!("{}\nlibrary: {}\nreader:  {}", text.escape_ascii(), answer(written), answer(&reader)),
+            posed.known.map(|(number, place)| format!(" -> {number} {place}")),
+        );
     }
 
     fn add(&mut self, other: &Tally) {
