@@ -7,7 +7,7 @@ use super::records::{self, Handed};
 use crate::punching::{Record, Word, CLEARED};
 use crate::reading::{block_rows, read_block, Block, Opening, Value};
 use crate::rows::{punched, CR, DEL, HT, LF, NUL};
-use crate::shorthand::{parse, Dropped, Format, Item, Kind, Mark, Sign};
+use crate::shorthand::{parse, Dropped, Format, Item, Kind, Mark};
 use crate::{punch_block, Refusal};
 use std::fmt;
 
@@ -67,7 +67,8 @@ pub struct Reply {
 
 impl fmt::Display for Reply {
     fn fmt(&self, to: &mut fmt::Formatter<'_>) -> fmt::Result {
-        write!(to, "{} {} {}", self.number, self.place, self.handed)
+        // where the last part is empty, its space is left out too
+        to.write_str(format!("{} {} {}", self.number, self.place, self.handed).trim_end_matches(' '))
     }
 }
 
@@ -96,7 +97,7 @@ impl Line {
             Line::Call(ask) => called(ask),
             Line::Format { edition, shorthand } => {
                 let none = Format { sequence: 0, tabs: false, items: Vec::new() };
-                handed_back(parse(*edition, shorthand), none, format_text)
+                handed_back(parse(*edition, shorthand), none, |format| format_text(*edition, &format))
             }
             Line::Block(Nth { edition, shorthand, n, tape }) => {
                 let block = parse(*edition, shorthand).and_then(|format| read_block(&format, tape, *n));
@@ -171,10 +172,14 @@ fn asked(tape: &[u8]) -> String {
 fn rows_text(rows: &[u8]) -> String {
     let mut text = String::with_capacity(2 * rows.len());
     for &row in rows {
-        match character_text(row & 0x7F) {
-            Some(character) if row == punched(row & 0x7F) => text.push(character),
-            _ => text += &format!("\\{row:03}"),
+        let Some(character) = character_text(row & 0x7F) else {
+            text += &format!("\\{row:03}");
+            continue;
+        };
+        if row != punched(row & 0x7F) {
+            text.push('?');
         }
+        text.push(character);
     }
     text
 }
@@ -221,16 +226,16 @@ fn word_text((letter, value): Word) -> String {
     }
 }
 
-fn format_text(format: Format) -> String {
+fn format_text(edition: u32, format: &Format) -> String {
     let dots = if format.tabs { "dots" } else { "plain" };
     let mut text = format!("{} {dots} {}", format.sequence, format.items.len());
     for item in &format.items {
-        text += &format!(" {}", item_text(item));
+        text += &format!(" {}", item_text(edition, item));
     }
     text
 }
 
-fn item_text(item: &Item) -> String {
+fn item_text(edition: u32, item: &Item) -> String {
     let letter = char::from(item.letter);
     match item.kind {
         Kind::Plain => format!("{letter}P{}", item.most),
@@ -246,7 +251,8 @@ fn item_text(item: &Item) -> String {
                 Dropped::Leading => 'L',
                 Dropped::Trailing => 'T',
             };
-            let sign = if item.sign == Sign::Optional { 'b' } else { 's' };
+            // the edition's rule, whatever the mark
+            let sign = if edition == 2539 { 'b' } else { 's' };
             format!("{letter}D{mark}{before}.{}{missing}{sign}", item.most - before)
         }
     }
@@ -381,13 +387,13 @@ mod tests {
         assert_eq!(written(Line::Block(nth(2))), asked('W', " 2") + "15 2 - N 0 0");
         assert_eq!(written(Line::Rows(nth(0))), asked('P', " 0") + "0 0 N001^G01^X+012500^F615~");
         assert_eq!(written(Line::Rows(nth(1))), asked('P', " 1") + "0 0 /N002^^X-000250~");
-        assert_eq!(written(Line::Rows(nth(2))), asked('P', " 2") + "15 2 ");
+        assert_eq!(written(Line::Rows(nth(2))), asked('P', " 2") + "15 2");
     }
 
     #[test]
     fn formats_of_the_rules() {
         assert_eq!(format(1057, PLAIN), "F 1057 N3.G2.X+42.F3.M2* -> 0 0 3 dots 4 GP2 XD+4.2=s FS3 MP2");
-        assert_eq!(format(2539, "N9X+042Y420ZD10*"), "F 2539 N9X+042Y420ZD10* -> 0 0 9 plain 3 XD+4.2Lb YD.4.2Ts ZDD1.0=b");
+        assert_eq!(format(2539, "N9X+042Y420ZD10*"), "F 2539 N9X+042Y420ZD10* -> 0 0 9 plain 3 XD+4.2Lb YD.4.2Tb ZDD1.0=b");
         assert_eq!(format(2539, "N3X+040*"), "F 2539 N3X+040* -> 2 2 0 plain 0");
         assert_eq!(format(1057, "N3.X+042*"), "F 1057 N3.X+042* -> 3 2 0 plain 0");
         assert_eq!(format(1, ""), "F 1  -> 1 0 0 plain 0");
@@ -397,7 +403,7 @@ mod tests {
     fn punchings_and_buffers() {
         let (g, x) = ((b'G', Value::Plain(1)), (b'X', Value::Dimension(-250)));
         let asked = |room: usize, rest: &str| format!("J 1057 {PLAIN} {room} 254 - : {rest}");
-        assert_eq!(written(punching(17, 1, &[x])), asked(17, "1 1 XD-250 -> 0 0 15 :001^^X-000250~\\013\\014"));
+        assert_eq!(written(punching(17, 1, &[x])), asked(17, "1 1 XD-250 -> 0 0 15 :001^^X-000250~?&\\014"));
         assert_eq!(written(punching(15, 1, &[x])), asked(15, "1 1 XD-250 -> 0 0 15 :001^^X-000250~"));
         assert_eq!(written(punching(3, 1, &[x])), asked(3, "1 1 XD-250 -> 19 15 0 \\254`_"));
         assert_eq!(written(punching(1, 1_000, &[])), asked(1, "1000 0 -> 17 0 0 \\254"));
@@ -423,6 +429,7 @@ mod tests {
         assert_eq!(written(Line::Call(Ask::Code { digits: 4, speed: 152_500_000 })), "C 4 152500000 -> 0 0 5153");
         assert_eq!(written(Line::Call(Ask::Head { length: 4, first: 9 })), "H 4 9 -> 0 0 2 %~\\011\\012");
         assert_eq!(written(Line::Call(Ask::Head { length: 1, first: 9 })), "H 1 9 -> 19 2 0 ^");
+        assert_eq!(written(Line::Call(Ask::Head { length: 0, first: 9 })), "H 0 9 -> 19 2 0");
     }
 
     #[test]
@@ -430,7 +437,9 @@ mod tests {
         assert_eq!(rows_text(&rows("%\n\t\0\x7F\r(A B)")), "%~^_`&(A\\160B)");
         assert_eq!(asked(&rows("(A B)")), "(A B)");
         // odd rows, an even one without a sign, and the notation's own signs
-        assert_eq!(rows_text(&[37, 1, 3, punched(b'~'), punched(b'?'), punched(b'\\')]), "\\037\\001\\003\\126\\063\\092");
+        assert_eq!(rows_text(&[37, 1, 3, punched(b'~'), punched(b'?'), punched(b'\\')]), "?%\\001\\003\\126\\063\\092");
+        // an odd SP has no character either, and DEL without its eighth hole has
+        assert_eq!(rows_text(&[32, 127, 128]), "\\032?`?_");
         assert_eq!(rows_text(&[33, 225]), "!a");
     }
 
