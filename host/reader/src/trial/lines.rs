@@ -323,7 +323,8 @@ fn format(chance: &mut Chance) -> Line {
         4 => shorthand.truncate(chance.below(shorthand.len())),
         _ => {}
     }
-    make_sayable(&mut shorthand);
+    // it is the last part of its line, and may hold spaces
+    shorthand.retain(|&byte| byte != b'\n');
     Line::Format { edition, shorthand }
 }
 
