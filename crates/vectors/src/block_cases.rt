@@ -1,118 +1,59 @@
 // Cases of the crate reading.
-use crate::text::number;
-use crate::text::rows_of;
-use crate::text::second;
-use crate::text::upto_space;
-use crate::text::write_number;
-use libc::STDOUT_FILENO;
+use crate::answers::put_checked;
+use crate::answers::put_counted;
+use crate::answers::put_number;
+use crate::answers::put_rows;
+use crate::asked::narrow;
+use crate::asked::number;
+use crate::asked::part;
+use crate::asked::rest;
+use crate::asked::rows_of;
+use crate::records::put_record;
 
-fn write_refusal(r: rows::Refusal) {
-    write_number(r.number as u64);
-    write_number(r.place as u64);
+// B: the number of blocks.
+pub fn count(asked: &[u8], tape: &mut [u8], out: &mut [u8], at: usize) -> usize {
+    let text = rest(asked);
+    let n = rows_of(rest(text), tape);
+    put_counted(
+        out,
+        at,
+        reading::count_blocks(narrow(asked), part(text), &tape[0..n]),
+    )
 }
 
-// Number, place and count of the blocks of a tape.
-pub fn write_count(edition: u32, text: &[u8], tape: &[u8]) {
-    match reading::count_blocks(edition, text, tape) {
-        reading::Counted::Blocks(c) => {
-            write_number(0);
-            write_number(0);
-            write_number(c as u64);
-        }
-        reading::Counted::Refused(r) => {
-            write_refusal(r);
-            write_number(0);
-        }
-    }
-}
-
-// B: number, place and count of the blocks of a spelt tape.
-pub fn count(rest: &[u8], tape: &mut [u8]) {
-    let edition = (number(rest) % 4294967296) as u32;
-    let text = second(rest);
-    let n = rows_of(second(text), tape);
-    write_count(edition, upto_space(text), &tape[0..n]);
-}
-
-// A dimension, written by its sign and its magnitude.
-fn write_dimension(z: i64) {
-    if z < 0 {
-        io::write_all(STDOUT_FILENO, b" -");
-        if z > -1000000000000000000 {
-            io::print_decimal(STDOUT_FILENO, (0 - z) as u64);
-        }
-        return;
-    }
-    write_number(z as u64);
-}
-
-fn write_word(word: words::Word) {
-    io::write_all(STDOUT_FILENO, b" ");
-    let letter = [word.letter];
-    io::write_all(STDOUT_FILENO, &letter);
-    let value = word.value;
-    match value {
-        words::Value::Number(v) => write_number(v),
-        words::Value::Dimension(z) => write_dimension(z),
-        words::Value::Speed(v) => write_number(v),
-    }
-}
-
-fn write_block(block: reading::Block) {
-    if block.skip {
-        io::write_all(STDOUT_FILENO, b" /");
-    }
-    if block.alignment {
-        io::write_all(STDOUT_FILENO, b" :");
-    }
-    write_number(block.sequence);
-    write_number(block.count as u64);
-    let mut i: usize = 0;
-    while i < 22 {
-        let word = block.words[i];
-        i += 1;
-        if word.letter != 0 {
-            write_word(word);
-        }
-    }
-}
-
-// W: number and place of block n, and its record.
-pub fn block(rest: &[u8], tape: &mut [u8]) {
-    let edition = (number(rest) % 4294967296) as u32;
-    let text = second(rest);
-    let asked = second(text);
-    let n = rows_of(second(asked), tape);
+// W: block n as a record.
+pub fn block(asked: &[u8], tape: &mut [u8], out: &mut [u8], at: usize) -> usize {
+    let text = rest(asked);
+    let wanted = rest(text);
+    let n = rows_of(rest(wanted), tape);
     let answer = reading::read_block(
-        edition,
-        upto_space(text),
+        narrow(asked),
+        part(text),
         &tape[0..n],
-        number(asked) as usize,
+        number(wanted) as usize,
     );
     let outcome = answer.outcome;
-    crate::row_cases::write_checked(outcome);
-    let b = answer.block;
-    write_block(b);
+    let block = answer.block;
+    let next = put_checked(out, at, outcome);
+    put_record(out, next, block)
 }
 
-// P: number and place of the rows of block n, and how many they are.
-pub fn part(rest: &[u8], tape: &mut [u8]) {
-    let edition = (number(rest) % 4294967296) as u32;
-    let text = second(rest);
-    let asked = second(text);
-    let n = rows_of(second(asked), tape);
+// P: the rows of block n.
+pub fn part_of(asked: &[u8], tape: &mut [u8], out: &mut [u8], at: usize) -> usize {
+    let text = rest(asked);
+    let wanted = rest(text);
+    let n = rows_of(rest(wanted), tape);
     let mut refusal: u32 = 0;
     let mut place: usize = 0;
-    let part = reading::block_rows(
-        edition,
-        upto_space(text),
+    let rows = reading::block_rows(
+        narrow(asked),
+        part(text),
         &tape[0..n],
-        number(asked) as usize,
+        number(wanted) as usize,
         &mut refusal,
         &mut place,
     );
-    let length = part.len();
-    write_number(refusal as u64);
-    write_number(place as u64);
-    write_number(length as u64);
+    let next = put_number(out, at, refusal as u64);
+    let behind = put_number(out, next, place as u64);
+    put_rows(out, behind, rows)
 }

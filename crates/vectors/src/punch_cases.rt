@@ -1,115 +1,90 @@
 // Cases of the crate punching.
 ghost use Prim.Native.Nat.{_≤_};
 ghost use lib.ListN.{length};
-use crate::text::number;
-use crate::text::rows_of;
-use crate::text::second;
-use crate::text::upto_space;
-use crate::text::write_number;
+use crate::answers::put_all;
+use crate::answers::put_counted;
+use crate::answers::put_number;
+use crate::answers::put_refused;
+use crate::answers::put_rows;
+use crate::answers::put_value;
+use crate::asked::fill;
+use crate::asked::integer;
+use crate::asked::narrow;
+use crate::asked::number;
+use crate::asked::part;
+use crate::asked::rest;
+use crate::asked::room_in;
+use crate::asked::rows_of;
+use crate::records::record_of;
 use punching::Punched;
-use words::Value;
+use reading::Block;
+use rows::Checked;
 
-fn write_row(row: u8) {
-    write_number(row as u64);
-}
-
-fn write_rows(rows: &[u8]) {
-    let mut i: usize = 0;
-    while i < rows.len() {
-        write_row(rows[i]);
-        i += 1;
-    }
-}
-
-// Number and place, and the rows that were written.
-fn write_punched(answer: Punched, buffer: &[u8]) {
+// How many rows were written.
+fn put_written(out: &mut [u8], at: usize, answer: Punched) -> usize {
     match answer {
-        Punched::Rows(n) => {
-            write_number(0);
-            write_number(0);
-            if n <= buffer.len() {
-                write_rows(&buffer[0..n]);
-            }
-        }
-        Punched::Refused(r) => {
-            write_number(r.number as u64);
-            write_number(r.place as u64);
-        }
+        Punched::Rows(n) => put_value(out, at, n as u64),
+        Punched::Refused(r) => put_refused(out, at, r),
     }
 }
 
-// H: the head, into a buffer of so many rows.
-pub fn head(rest: &[u8], tape: &mut [u8]) {
-    let room = number(rest) as usize;
-    if room <= tape.len() {
-        let answer = punching::punch_head(&mut tape[0..room]);
-        write_punched(answer, &tape[0..room]);
-    }
+// The same, and the whole buffer.
+fn put_punched(out: &mut [u8], at: usize, answer: Punched, buffer: &[u8]) -> usize {
+    let next = put_written(out, at, answer);
+    put_rows(out, next, buffer)
 }
 
-fn punch(edition: u32, text: &[u8], block: reading::Block, buffer: &mut [u8]) {
+// H: the head.
+pub fn head(asked: &[u8], buffer: &mut [u8], out: &mut [u8], at: usize) -> usize {
+    let room = room_in(buffer, asked);
+    fill(&mut buffer[0..room], number(rest(asked)), 1);
+    let answer = punching::punch_head(&mut buffer[0..room]);
+    put_punched(out, at, answer, &buffer[0..room])
+}
+
+// A record, into a buffer that is lent whole.
+fn punch(
+    edition: u32,
+    text: &[u8],
+    block: Block,
+    buffer: &mut [u8],
+    out: &mut [u8],
+    at: usize,
+) -> usize {
     let answer = punching::punch_block(edition, text, block, buffer);
-    write_punched(answer, buffer);
+    put_punched(out, at, answer, buffer)
 }
 
-// D: block n of a spelt tape punched anew, into a buffer of so many rows.
-pub fn again(rest: &[u8], tape: &mut [u8]) {
-    let edition = (number(rest) % 4294967296) as u32;
-    let text = second(rest);
-    let asked = second(text);
-    let wanted = second(asked);
-    let room = number(asked) as usize;
-    let n = rows_of(second(wanted), tape);
-    let read = reading::read_block(
-        edition,
-        upto_space(text),
-        &tape[0..n],
-        number(wanted) as usize,
-    );
+// J: a record.
+pub fn record(asked: &[u8], buffer: &mut [u8], out: &mut [u8], at: usize) -> usize {
+    let text = rest(asked);
+    let lent = rest(text);
+    let first = rest(lent);
+    let room = room_in(buffer, lent);
+    fill(&mut buffer[0..room], number(first), 1);
+    let block = record_of(rest(first));
+    punch(
+        narrow(asked),
+        part(text),
+        block,
+        &mut buffer[0..room],
+        out,
+        at,
+    )
+}
+
+// D: block n of a tape.
+pub fn again(asked: &[u8], tape: &mut [u8], buffer: &mut [u8], out: &mut [u8], at: usize) -> usize {
+    let edition = narrow(asked);
+    let text = rest(asked);
+    let lent = rest(text);
+    let wanted = rest(lent);
+    let n = rows_of(rest(wanted), tape);
+    let read = reading::read_block(edition, part(text), &tape[0..n], number(wanted) as usize);
     let block = read.block;
-    if room <= tape.len() {
-        punch(edition, upto_space(text), block, &mut tape[0..room]);
-    }
-}
-
-fn first_of(text: &[u8]) -> u8 {
-    if text.len() == 0 {
-        return 0;
-    }
-    text[0]
-}
-
-// N a plain number, D a dimension, M minus one, L the least integer, S a speed.
-fn value_of(kind: u8, size: u64) -> Value {
-    match kind {
-        b'D' => Value::Dimension((size % 9223372036854775808) as i64),
-        b'M' => Value::Dimension(-1),
-        b'L' => Value::Dimension(-9223372036854775808),
-        b'S' => Value::Speed(size),
-        _ => Value::Number(size),
-    }
-}
-
-// J: a record with one word, given as room, sequence number, count, letter, kind and value.
-pub fn record(rest: &[u8], tape: &mut [u8]) {
-    let edition = (number(rest) % 4294967296) as u32;
-    let text = second(rest);
-    let asked = second(text);
-    let sequence = second(asked);
-    let count = second(sequence);
-    let letter = second(count);
-    let kind = second(letter);
-    let room = number(asked) as usize;
-    let mut block = reading::records::empty_block();
-    block.sequence = number(sequence);
-    block.count = number(count) as usize;
-    block.words[0] = words::Word {
-        letter: first_of(letter),
-        value: value_of(first_of(kind), number(second(kind))),
-    };
-    if room <= tape.len() {
-        punch(edition, upto_space(text), block, &mut tape[0..room]);
-    }
+    let room = room_in(buffer, lent);
+    fill(&mut buffer[0..room], 0, 0);
+    punch(edition, part(text), block, &mut buffer[0..room], out, at)
 }
 
 // As many rows as were punched, if they are within the room.
@@ -123,21 +98,21 @@ fn rows_punched(answer: Punched, room: usize) -> usize
 }
 
 // A block punched at a place; answers the place behind it.
-fn punch_at(edition: u32, text: &[u8], block: reading::Block, out: &mut [u8], at: usize) -> usize
-    requires { ⌜ at ≤ length (now out) ⌝ }
-    ensures { λ r. ⌜ r ≤ length (now (out .exit)) ⌝ }
+fn punch_at(edition: u32, text: &[u8], block: Block, punched: &mut [u8], at: usize) -> usize
+    requires { ⌜ at ≤ length (now punched) ⌝ }
+    ensures { λ r. ⌜ r ≤ length (now (punched .exit)) ⌝ }
 {
-    let room = out.len() - at;
-    let answer = punching::punch_block(edition, text, block, &mut out[at..]);
+    let room = punched.len() - at;
+    let answer = punching::punch_block(edition, text, block, &mut punched[at..]);
     at + rows_punched(answer, room)
 }
 
 // A head, and behind it at most 100 blocks of a tape; answers the rows punched.
-fn punch_all(edition: u32, text: &[u8], tape: &[u8], out: &mut [u8]) -> usize
-    ensures { λ r. ⌜ r ≤ length (now (out .exit)) ⌝ }
+fn punch_all(edition: u32, text: &[u8], tape: &[u8], punched: &mut [u8]) -> usize
+    ensures { λ r. ⌜ r ≤ length (now (punched .exit)) ⌝ }
 {
-    let room = out.len();
-    let answer = punching::punch_head(out);
+    let room = punched.len();
+    let answer = punching::punch_head(punched);
     let mut at = rows_punched(answer, room);
     let mut n: usize = 0;
     while n < 100 {
@@ -145,21 +120,41 @@ fn punch_all(edition: u32, text: &[u8], tape: &[u8], out: &mut [u8]) -> usize
         n += 1;
         let block = read.block;
         let outcome = read.outcome;
-        if let rows::Checked::Refused(_) = outcome {
+        if let Checked::Refused(_) = outcome {
             return at;
         }
-        at = punch_at(edition, text, block, out, at);
+        at = punch_at(edition, text, block, punched, at);
     }
     at
 }
 
-// Q: the blocks of a spelt tape punched behind a head: number, place and count read back, and the rows.
-pub fn round(rest: &[u8], tape: &mut [u8]) {
-    let edition = (number(rest) % 4294967296) as u32;
-    let text = second(rest);
-    let n = rows_of(second(text), tape);
-    let mut out = [0u8; 4000];
-    let m = punch_all(edition, upto_space(text), &tape[0..n], &mut out);
-    crate::block_cases::write_count(edition, upto_space(text), &out[0..m]);
-    write_rows(&out[0..m]);
+// Q: the blocks of a tape punched behind a head, and counted.
+pub fn round(
+    asked: &[u8],
+    tape: &mut [u8],
+    punched: &mut [u8],
+    out: &mut [u8],
+    at: usize,
+) -> usize {
+    let edition = narrow(asked);
+    let text = rest(asked);
+    let n = rows_of(rest(text), tape);
+    let m = punch_all(edition, part(text), &tape[0..n], punched);
+    let next = put_counted(
+        out,
+        at,
+        reading::count_blocks(edition, part(text), &punched[0..m]),
+    );
+    put_rows(out, next, &punched[0..m])
+}
+
+// A: sign and magnitude.
+pub fn magnitude(asked: &[u8], out: &mut [u8], at: usize) -> usize {
+    let m = punching::magnitude_of(integer(asked));
+    if m.minus {
+        let next = put_all(out, at, b" -");
+        return put_number(out, next, m.size);
+    }
+    let next = put_all(out, at, b" +");
+    put_number(out, next, m.size)
 }

@@ -1,68 +1,76 @@
-// Cases of the crate rows.
-use crate::text::number;
-use crate::text::rows_of;
-use crate::text::write_number;
-use libc::STDOUT_FILENO;
+// Cases of the crate rows, and of the head.
+use crate::answers::put;
+use crate::answers::put_all;
+use crate::answers::put_checked;
+use crate::answers::put_decimal;
+use crate::answers::put_number;
+use crate::answers::put_refused;
+use crate::answers::put_value;
+use crate::asked::byte;
+use crate::asked::number;
+use crate::asked::rows_of;
+use parts::EndRead;
+use rows::Next;
 
-pub fn write_checked(answer: rows::Checked) {
-    match answer {
-        rows::Checked::Clean => {
-            write_number(0);
-            write_number(0);
-        }
-        rows::Checked::Refused(r) => {
-            write_number(r.number as u64);
-            write_number(r.place as u64);
-        }
+// E: the table's entry of a row, and its holes by the count.
+pub fn entry(asked: &[u8], out: &mut [u8], at: usize) -> usize {
+    let row = byte(asked);
+    let next = put_number(out, at, rows::entry_of(row) as u64);
+    if rows::has_even_holes(row) {
+        return put_all(out, next, b" even");
     }
+    put_all(out, next, b" odd")
 }
 
-// R: the first three stages of a spelt tape.
-pub fn stages(rest: &[u8], tape: &mut [u8]) {
-    let n = rows_of(rest, tape);
-    write_checked(rows::check(&tape[0..n]));
+// R: the first three stages.
+pub fn stages(asked: &[u8], tape: &mut [u8], out: &mut [u8], at: usize) -> usize {
+    let n = rows_of(asked, tape);
+    put_checked(out, at, rows::check(&tape[0..n]))
 }
 
-// M: the first three stages of that many NUL rows.
-pub fn many(rest: &[u8], blank: &[u8]) {
-    let n = number(rest);
-    let k = n as usize;
-    if k <= blank.len() {
-        write_checked(rows::check(&blank[0..k]));
+// M: the first three stages of so many NUL rows.
+pub fn many(asked: &[u8], blank: &[u8], out: &mut [u8], at: usize) -> usize {
+    let n = number(asked);
+    if n < blank.len() as u64 {
+        return put_checked(out, at, rows::check(&blank[0..n as usize]));
     }
+    put_checked(out, at, rows::check(blank))
 }
 
-fn write_kept(tape: &[u8]) {
-    let mut at: usize = 0;
-    while at < tape.len() {
-        let rows::Next::Row {
+fn put_kept(out: &mut [u8], start: usize, tape: &[u8]) -> usize {
+    let mut at = start;
+    let mut from: usize = 0;
+    while from < tape.len() {
+        let Next::Row {
             character,
             place,
             after,
-        } = rows::next_kept(tape, at)
+        } = rows::next_kept(tape, from)
         else {
-            return;
+            return at;
         };
-        write_number(place as u64);
-        io::write_all(STDOUT_FILENO, b":");
-        io::print_decimal(STDOUT_FILENO, character as u64);
-        at = after;
+        if after <= from {
+            return at;
+        }
+        let next = put_number(out, at, place as u64);
+        let colon = put(out, next, b':');
+        at = put_decimal(out, colon, character as u64);
+        from = after;
     }
+    at
 }
 
-// K: the kept rows of a spelt tape, each as place and character.
-pub fn kept(rest: &[u8], tape: &mut [u8]) {
-    let n = rows_of(rest, tape);
-    write_kept(&tape[0..n]);
+// K: the kept rows.
+pub fn kept(asked: &[u8], tape: &mut [u8], out: &mut [u8], at: usize) -> usize {
+    let n = rows_of(asked, tape);
+    put_kept(out, at, &tape[0..n])
 }
 
-// E: the table entry of a row, and whether its holes are even by the count.
-pub fn entries(rest: &[u8]) {
-    let row = (number(rest) % 256) as u8;
-    write_number(rows::entry_of(row) as u64);
-    if rows::has_even_holes(row) {
-        io::write_all(STDOUT_FILENO, b" even");
-    } else {
-        io::write_all(STDOUT_FILENO, b" odd");
+// T: the first three stages and the head.
+pub fn head(asked: &[u8], tape: &mut [u8], out: &mut [u8], at: usize) -> usize {
+    let n = rows_of(asked, tape);
+    match parts::ends::enter_tape(&tape[0..n]) {
+        EndRead::At(lf, _) => put_value(out, at, lf as u64),
+        EndRead::Refused(r) => put_refused(out, at, r),
     }
 }

@@ -1,45 +1,34 @@
 // Cases of the crate speeds.
-use crate::text::number;
-use crate::text::second;
-use crate::text::write_number;
+use crate::answers::put_number;
+use crate::answers::put_refused;
+use crate::answers::put_value;
+use crate::asked::narrow;
+use crate::asked::number;
+use crate::asked::rest;
+use speeds::Code;
+use speeds::Exact;
+use speeds::Speed;
 
-fn write_value(value: u64) {
-    write_number(0);
-    write_number(0);
-    write_number(value);
-}
-
-fn write_refusal(r: rows::Refusal) {
-    write_number(r.number as u64);
-    write_number(r.place as u64);
-    write_number(0);
-}
-
-// S: the speed of a code of so many digits.
-pub fn speed(rest: &[u8]) {
-    let digits = (number(rest) % 4294967296) as u32;
-    let code = number(second(rest));
-    match speeds::speed_of(digits, code) {
-        speeds::Speed::Units(v) => write_value(v),
-        speeds::Speed::Refused(r) => write_refusal(r),
+// S: the speed of a code.
+pub fn speed(asked: &[u8], out: &mut [u8], at: usize) -> usize {
+    match speeds::speed_of(narrow(asked), number(rest(asked))) {
+        Speed::Units(v) => put_value(out, at, v),
+        Speed::Refused(r) => put_refused(out, at, r),
     }
 }
 
-// C: the code of so many digits of a speed.
-pub fn code(rest: &[u8]) {
-    let digits = (number(rest) % 4294967296) as u32;
-    let speed = number(second(rest));
-    match speeds::code_of(digits, speed) {
-        speeds::Code::Number(c) => write_value(c),
-        speeds::Code::Refused(r) => write_refusal(r),
+// C: the code of a speed.
+pub fn code(asked: &[u8], out: &mut [u8], at: usize) -> usize {
+    match speeds::code_of(narrow(asked), number(rest(asked))) {
+        Code::Number(c) => put_value(out, at, c),
+        Code::Refused(r) => put_refused(out, at, r),
     }
 }
 
 // X: the code that means a speed exactly.
-pub fn exact(rest: &[u8]) {
-    let digits = (number(rest) % 4294967296) as u32;
-    let speed = number(second(rest));
-    if let speeds::Exact::Means(c) = speeds::exact_code(digits, speed) {
-        write_number(c);
+pub fn exact(asked: &[u8], out: &mut [u8], at: usize) -> usize {
+    match speeds::exact_code(narrow(asked), number(rest(asked))) {
+        Exact::Means(c) => put_number(out, at, c),
+        _ => at,
     }
 }
