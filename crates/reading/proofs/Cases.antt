@@ -79,8 +79,7 @@ withTabs =
 -- without tabs, in 2539
 abbrev without : List Case
 without =
-    case 2539 "N3X+042*" "%\nN001X+5\n" (taken 1)
-    ∷ case 2539 "N3X+420*" "%\nN001X5\n" (taken 1)
+    case 2539 "N3X+420*" "%\nN001X5\n" (taken 1)
     ∷ case 2539 "N3X+420*" "%\nN001X\n" (refused 11 7)
     ∷ case 2539 "N3X42*" "%\nN001X+000001\n" (refused 12 7)
     ∷ case 2539 "N3X+42Y+42*" "%\nN001Y000001X000001\n" (refused 10 13)

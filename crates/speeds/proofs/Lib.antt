@@ -9,4 +9,3 @@ pub mod RoundTrip
 pub mod ExactCode
 pub mod Bounds
 pub mod Steps
-pub mod Cases
