@@ -1,15 +1,14 @@
 -- The parts of an accepted tape: each is well formed by itself and adds just its block to any accepted tape.
-use Prim.Native.Nat.{ℕ, _+_, _≤_, _<_}
+use Prim.Native.Nat.{ℕ, _+_, _≤_}
 use mathlib.Core.Path.{_≡_, refl, sym, ap, _∙_, subst}
 use mathlib.Core.Bool.{false}
-use mathlib.Core.List.{List, [], _∷_, _++_, append-assoc, append-nil, map}
-use native.Mathlib.Nat.{zero-add}
+use mathlib.Core.List.{List, [], _∷_, _++_, append-assoc, append-nil}
 use native.Mathlib.Omega.{arith}
 use lib.Dec.{T}
-use lib.ListN.{length, getD, length-append, length-map}
+use lib.ListN.{length, length-append, length-map}
 use borrow.Author.Tests.{lt-ltb}
-use Rattle.rows.specs.Answer.{Answer, taken, refused, valueOr}
-use Rattle.rows.specs.Kept.{KeptRow, keptFrom, kept}
+use Rattle.rows.specs.Answer.{taken}
+use Rattle.rows.specs.Kept.{KeptRow, kept}
 use Rattle.rows.specs.Stages.{limit}
 use Rattle.rows.specs.ControlOut.{WellFormed}
 use Rattle.rows.specs.Passes.{Every, Passes}
@@ -26,11 +25,11 @@ use Rattle.shorthand.proofs.Accepted.{complete, one-format}
 use Rattle.reading.specs.declared.Block.{Block}
 use Rattle.reading.specs.Relation.{Blocked, none, more, Program, program, chars, TapeOf}
 use Rattle.reading.specs.Parse.{Entry}
-use Rattle.reading.specs.Answers.{nowhere, programAt, read, readUnder, rowsNumbered}
+use Rattle.reading.specs.Answers.{programAt, read, readUnder}
 use Rattle.reading.proofs.Outcomes.{chars-append}
 use Rattle.reading.proofs.Programs.{blocksOf, tape-read}
 use Rattle.reading.proofs.BlocksJoined.{program-append}
-use Rattle.reading.proofs.BlockParts.{PartAs, Parted, over, part, handed, Whole, whole}
+use Rattle.reading.proofs.BlockParts.{PartAs, Parted, over, part, handed, whole}
 use Rattle.demands.specs.Parts.{Fed, Alone, Each, inRow, Parts}
 
 -- even rows of the 50 characters

@@ -1,18 +1,18 @@
 -- The rows of a tape as parts: the head's, and then each block's, one behind the other, every part well formed by itself.
-use Prim.Native.Nat.{ℕ, zero, suc, _+_, _-_, _≤_, _<_}
+use Prim.Native.Nat.{ℕ, zero, suc, _+_, _-_, _<_}
 use mathlib.Core.Path.{_≡_, refl, sym, ap, _∙_, subst}
 use mathlib.Core.Bool.{false}
-use mathlib.Core.List.{List, [], _∷_, _++_, append-assoc, map}
+use mathlib.Core.List.{List, [], _∷_, _++_, append-assoc}
 use native.Mathlib.Nat.{le-of-suc-le-suc, not-suc-le-zero}
 use native.Mathlib.Omega.{arith}
-use lib.ListN.{length, getD, take, drop, length-append}
+use lib.ListN.{length, getD, length-append}
 use lib.Seq.{take-append-seam, drop-append-seam}
 use Rattle.rows.specs.Row.{character}
 use Rattle.rows.specs.Answer.{taken}
 use Rattle.rows.specs.Kept.{KeptRow, keptFrom, kept}
 use Rattle.rows.specs.ControlOut.{WellFormed}
 use Rattle.rows.proofs.KeptRows.{kept-chars}
-use Rattle.rows.proofs.TapeParts.{DividedAt, divided-at}
+use Rattle.rows.proofs.TapeParts.{divided-at}
 use Rattle.shorthand.specs.declared.Format.{Format}
 use Rattle.reading.specs.declared.Block.{Block}
 use Rattle.reading.specs.Relation.{End, lf, cr-lf, skipRows, sequenceRows, Blocked, block, chars}

@@ -1,6 +1,6 @@
 -- The scan finds the lowest row at fault, and nothing where no row is.
 use mathlib.Core.Path.{_≡_, refl, sym, ap, _∙_}
-use mathlib.Core.Bool.{Bool, true, false, _||_, cond}
+use mathlib.Core.Bool.{Bool, true, false, cond}
 use mathlib.Core.Logic.{_⊎_, inl, inr, ⊎-elim}
 use mathlib.Core.List.{List, [], _∷_, _++_, append-assoc}
 use Prim.Native.Nat.{ℕ, zero, suc, _+_, _≤_, _<_, zero-le}
@@ -10,12 +10,9 @@ use lib.ListN.{length, length-append}
 use lib.Dec.{eqb}
 use borrow.Author.Tests.{eqb-true}
 use Rattle.rows.specs.Row.{character}
-use Rattle.rows.specs.Stages.{step, goOn, scan, unclosed}
-use Rattle.rows.specs.Passes.{Every}
-use Rattle.rows.specs.Faults.{opens, closes, spoils, Open, Fault, stray, unclosed as never-closed, inside, behind-row, behind-remark, Lowest, None}
-use Rattle.rows.specs.declared.Found.{Found}
-use Rattle.rows.specs.declared.Found.the-variants.{Nowhere, At}
-use Rattle.rows.specs.declared.Side.{Side}
+use Rattle.rows.specs.Stages.{goOn, scan}
+use Rattle.rows.specs.Faults.{opens, closes, spoils, Open, Fault, stray, unclosed as never-closed, inside, behind-row, behind-remark, Lowest}
+use Rattle.rows.specs.declared.Found.the-variants.{At}
 use Rattle.rows.specs.declared.Side.the-variants.{Outside, Inside, Spoilt}
 use Rattle.rows.specs.declared.Step.the-variants.{On, Fault as Faulty}
 use Rattle.rows.proofs.Every.{every-append, every-front, every-back}

@@ -1,8 +1,8 @@
 -- The first row that a test takes, as a split of the rows: there is one or none, and no second split.
-use mathlib.Core.Path.{_≡_, refl, ap}
+use mathlib.Core.Path.{_≡_, refl}
 use mathlib.Core.Bool.{Bool, true, false}
 use mathlib.Core.List.{List, [], _∷_, _++_}
-use Prim.Native.Nat.{ℕ, suc, _+_, _≤_, zero-le, suc-le-suc}
+use Prim.Native.Nat.{ℕ, _+_, _≤_, zero-le, suc-le-suc}
 use native.Mathlib.Omega.{arith}
 use lib.ListN.{length}
 use Rattle.rows.specs.Passes.{Every}

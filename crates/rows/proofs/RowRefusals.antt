@@ -1,20 +1,19 @@
 -- The first three stages refuse by 4 to 7 exactly where the relation on rows says so.
-use Prim.Native.Nat.{ℕ, suc, _+_, _≤_, _<_}
+use Prim.Native.Nat.{ℕ, _+_, _≤_, _<_}
 use native.Mathlib.Nat.{zero-add}
 use native.Mathlib.Omega.{arith}
-use mathlib.Core.Path.{_≡_, refl, sym, ap, _∙_}
+use mathlib.Core.Path.{_≡_, refl}
 use mathlib.Core.Logic.{_↔_}
 use mathlib.Core.Bool.{Bool, true, false, cond}
-use mathlib.Core.List.{List, [], _∷_, _++_}
+use mathlib.Core.List.{List, _∷_, _++_}
 use lib.Dec.{T, eqb, ltb}
 use lib.ListN.{length, getD, length-append}
 use borrow.Author.Tests.{lt-ltb, le-ltb, ltb-true, ltb-false}
-use Rattle.rows.specs.Row.{character, even, characters, among, entry}
+use Rattle.rows.specs.Row.{even, entry}
 use Rattle.rows.specs.Stages.{limit, barred, scan, refuseAt, judged}
-use Rattle.rows.specs.Answer.{Answer, taken, refused, _>>_}
-use Rattle.rows.specs.Faults.{Fault, stray, unclosed, inside, behind-row, behind-remark, Odd, Foreign, Lowest, None, RowRefusal, long, odd, foreign, fault}
+use Rattle.rows.specs.Answer.{taken, refused, _>>_}
+use Rattle.rows.specs.Faults.{Fault, stray, unclosed, inside, behind-row, behind-remark, Odd, Foreign, None, RowRefusal, long, odd, foreign, fault}
 use Rattle.rows.specs.declared.Found.{Found}
-use Rattle.rows.specs.declared.Found.the-variants.{Nowhere, At}
 use Rattle.rows.specs.declared.Side.the-variants.{Outside}
 use Rattle.rows.proofs.Outcomes.{Holds, refusal, value, of-refused}
 use Rattle.rows.proofs.Entry.{even-entry, known-entry}
