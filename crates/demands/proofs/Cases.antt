@@ -13,9 +13,9 @@ use Rattle.rows.specs.Kept.{keptFrom}
 use Rattle.speeds.specs.Meaning.{meaning, speedFor}
 use Rattle.speeds.specs.Rounding.{pastWithin, past, rounded}
 use Rattle.speeds.specs.Coding.{written, codeFor}
-use Rattle.shorthand.specs.Edition.{rank, due, anyDue}
-use Rattle.shorthand.specs.Stand.{digitsOf, afterDigits, stand, standN}
-use Rattle.shorthand.specs.Parse.{itemsFrom, parsed}
+use Rattle.shorthand.specs.Order.{rank, due, after}
+use Rattle.shorthand.specs.Stand.{digitsOf, afterDigits, seen, stand, standN}
+use Rattle.shorthand.specs.Parse.{itemsFrom, parsedIn, parsed}
 use Rattle.shorthand.proofs.Cases.{bytes}
 use Rattle.words.specs.declared.Value.{Value}
 use Rattle.words.specs.declared.Value.the-variants.{Number}
@@ -74,5 +74,5 @@ cases =
     ∷ []
 
 pub cases-hold : map (λ (c : Case). answered (c .asked)) cases ≡ map (λ (c : Case). c .answer) cases
-unfolding answered ones entry lowest scan judged keptFrom speedFor meaning codeFor rounded past pastWithin written rank due anyDue digitsOf afterDigits stand standN itemsFrom parsed run figures dataAt wordsAt startAt blockAt headAt blocksAt programAt read readUnder
+unfolding answered ones entry lowest scan judged keptFrom speedFor meaning codeFor rounded past pastWithin written rank due after digitsOf afterDigits seen stand standN itemsFrom parsedIn parsed run figures dataAt wordsAt startAt blockAt headAt blocksAt programAt read readUnder
 cases-hold = refl

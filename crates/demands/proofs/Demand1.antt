@@ -1,13 +1,12 @@
 -- Demand 1: everything gets an answer, and what can't be taken is refused by a number and a place of the table.
-use Prim.Native.Nat.{ℕ, zero, suc, _^_, _≤_, _<_}
-use native.Mathlib.Decide.{decLt}
+use Prim.Native.Nat.{ℕ, _≤_}
 use native.Mathlib.Omega.{arith}
-use mathlib.Core.Path.{_≡_, refl, sym, _∙_}
-use mathlib.Core.Logic.{_⊎_, inl, inr, ⊎-elim, _↔_}
-use mathlib.Core.Bool.{Bool, true, false, _||_, not}
-use mathlib.Core.List.{List, [], _∷_, _++_}
+use mathlib.Core.Path.{_≡_, refl}
+use mathlib.Core.Logic.{inl, inr, ⊎-elim, _↔_}
+use mathlib.Core.Bool.{Bool, true, false, _||_}
+use mathlib.Core.List.{List}
 use lib.Dec.{T, eqb, eqb→eq, leb, ltb}
-use lib.ListN.{length, take}
+use lib.ListN.{length}
 use borrow.Author.Tests.{leb-false, ltb-false}
 use Rattle.rows.specs.Answer.{Answer, taken, refused, _>>=_, _>>_, valueOr}
 use Rattle.rows.specs.Kept.{kept}
@@ -20,26 +19,22 @@ use Rattle.speeds.specs.Meaning.{speedFor}
 use Rattle.speeds.specs.Coding.{codeFor}
 use Rattle.speeds.proofs.Answers.{speed-answers, code-answers}
 use Rattle.shorthand.specs.declared.Format.{Format}
-use Rattle.shorthand.specs.Edition.{form, known}
-use Rattle.shorthand.specs.Mending.{Mends}
 use Rattle.shorthand.specs.Lawful.{Lawful}
 use Rattle.shorthand.specs.Spell.{spell}
+use Rattle.shorthand.specs.Mending.{Spelling}
 use Rattle.shorthand.specs.Parse.{parsed}
 use Rattle.shorthand.proofs.Accepted.{sound, accepted}
 use Rattle.shorthand.proofs.Fairness.{lawful-facts}
-use Rattle.shorthand.proofs.Starred.{starred}
-use Rattle.shorthand.proofs.Refusals as spelling
-use Rattle.shorthand.proofs.Mended as mended
+use Rattle.shorthand.proofs.Mended.{spelling-exactly}
 use Rattle.reading.specs.declared.Block.{Block}
 use Rattle.reading.specs.Parse.{Entry}
 use Rattle.reading.specs.Answers.{nth, programAt, read, readUnder, entryNumbered, counted, blockNumbered, rowsNumbered}
 use Rattle.punching.specs.Answers.{headPunched, blockFor, blockPunched, after}
 use Rattle.punching.proofs.Records.{Fault, WordRefusal}
 use Rattle.punching.proofs.Refusals.{Barred, refused-only}
-use Rattle.places.specs.Faults.{RefusalOf}
 use Rattle.places.proofs.RefusedRows.{refused-rows}
 use Rattle.places.proofs.Exactly.{refusal-read}
-use Rattle.demands.specs.Tables.{Spelt, InOrder, Spelling, edition, out-of-form, beyond, lacking, TapeRefusal, rows, program, Reading, Fetching, unread, past, Punching, Heading, Speaking, Coding}
+use Rattle.demands.specs.Tables.{rows, program, Reading, Fetching, unread, past, Punching, Heading, Speaking, Coding}
 
 -- an answer, whatever was handed over: something taken, or a refusal of the table
 abbrev pub Answered : {A : Type 0} → (ℕ → ℕ → Type 0) → Answer A → Type 0
@@ -47,40 +42,12 @@ Answered table a = Holds table (λ x. Unit {0}) a
 
 -- ---- the shorthand
 
--- what is taken spells a Format
-spelt-by : (e : ℕ) (s : List ℕ) (f : Format) → parsed e s ≡ taken f → Spelt e s
-spelt-by e s f q = let h = sound e s f q in record { format = f; lawful = h .1; text = h .0 }
-
-module _ (e : ℕ) (s : List ℕ) (n p : ℕ) (answer : parsed e s ≡ refused n p) where
-  in-order : p < length s → InOrder e s p
-  in-order l = elim (decLt 0 p) [ no z ↦ inl (omega (arith, z)) | yes some ↦ inr (by some (starred s p) refl) ]
-    where
-      by : 0 < p → (x : Bool) → starred s p ≡ x → Spelt e (take p s ++ (42 ∷ [])) ⊎ Spelt e (take p s)
-      by some true q = let g = mended.in-order-starred e s n p answer l (rw q tt) in inr (spelt-by e _ (g .0) (g .1))
-      by some false q = let g = mended.in-order e s n p answer some l (rw q tt) in inl (spelt-by e _ (g .0) (g .1))
-
-  unspelt : Spelt e s → ⊥
-  unspelt h = let q : taken (h .format) ≡ refused n p = sym (accepted e s (h .format) .1 (h .text, h .lawful)) ∙ answer in let z : _≡_ {A = ℕ} 0 1 = cc in omega (arith, z)
-
-  numbered : T (known e) → (n ≡ 2) ⊎ (n ≡ 3) → p ≤ length s → Spelling e s n p
-  numbered k (inl two) h =
-      elim (decLt p (length s)) [
-        | yes l ↦ rw two (out-of-form k l (in-order l) (mended.out-of-form e s n p answer two l))
-        | no l ↦ (let at : p ≡ length s = omega (arith, l, h) in let g = mended.lacking e s n p answer k at in rw (two, at) (lacking k unspelt (g .0) (spelt-by e _ (g .1) (g .2))))
-      ]
-  numbered k (inr three) h =
-      let l = mended.before-end e s n p answer three in
-      rw three (beyond k l (in-order l) (mended.unmended e s n p answer l) (mended.in-form e s n p answer three))
-
-  misspelt : Spelling e s n p
-  misspelt = ⊎-elim (λ r. rw (r .0, r .1) (edition (r .2))) (λ r. numbered (r .2) (r .0) (r .1)) (spelling.row e s n p answer)
-
 parsed-answered : (e : ℕ) (s : List ℕ) → Holds (Spelling e s) (λ f. parsed e s ≡ taken f) (parsed e s)
 parsed-answered e s = by (parsed e s) refl
   where
     by : (a : Answer Format) → parsed e s ≡ a → Holds (Spelling e s) (λ f. parsed e s ≡ taken f) a
     by (taken f) q = value q
-    by (refused n p) q = refusal (misspelt e s n p q)
+    by (refused n p) q = refusal (spelling-exactly e s n p .0 q)
 
 -- ---- a tape
 
@@ -97,7 +64,7 @@ module _ (e : ℕ) (s t : List ℕ) where
 
       stages : (f : Format) → parsed e s ≡ taken f → (j : Answer (Unit {0})) → judged t ≡ j → Holds (RowRefusal t) (λ u. Unit {0}) j → Answered (Reading e s t) (j >> programAt (length t) f (kept t))
       stages f q (taken u) c h = fourth f q c _ refl
-      stages f q (refused n p) c (refusal h) = refusal (Reading.tape (rows (spelt-by e s f q) h))
+      stages f q (refused n p) c (refusal h) = (let k = sound e s f q in refusal (Reading.tape (rows (k .1) (k .0) h)))
 
       read-answered : (f : Format) → parsed e s ≡ taken f → Answered (Reading e s t) (read f t)
       read-answered f q = stages f q (judged t) refl (row-refusals t)
@@ -171,24 +138,15 @@ speed-answered k c = ⊎-elim (λ v. rw (v .1) (value tt)) (⊎-elim (λ q. rw q
 pub code-answered : (k v : ℕ) → Answered Coding (codeFor k v)
 code-answered k v = ⊎-elim (λ c. rw (c .1) (value tt)) (⊎-elim (λ q. rw q (refusal Coding.digits)) (λ q. rw q (refusal Coding.beyond))) (code-answers k v)
 
--- of a tape, exactly: under a shorthand that is in order the table's refusal is the answer, and no other is
-spelling-low : {e : ℕ} {s : List ℕ} {n p : ℕ} → Spelling e s n p → n ≤ 3
-spelling-low (edition k) = omega arith
-spelling-low (out-of-form k i o m) = omega arith
-spelling-low (beyond k i o m g) = omega arith
-spelling-low (lacking k m u h) = omega arith
-
-of-tape : {e : ℕ} {s t : List ℕ} {n p : ℕ} → 4 ≤ n → Reading e s t n p → TapeRefusal e s t n p
-of-tape l (Reading.shorthand h) = absurd (omega (arith, l, spelling-low h))
-of-tape l (Reading.tape h) = h
-
-tape-refused : {e : ℕ} {s t : List ℕ} {n p : ℕ} → TapeRefusal e s t n p → counted e s t ≡ refused n p
+-- exactly: the table's refusal is the answer, and no other is
+table-refused : {e : ℕ} {s t : List ℕ} {n p : ℕ} → Reading e s t n p → counted e s t ≡ refused n p
 unfolding readUnder read
-tape-refused {e} {s} {t} {n} {p} (rows h r) = let q = accepted e s (h .format) .1 (h .text, h .lawful) in rw (q, refused-exactly t n p .1 r)
-tape-refused {e} {s} {t} {n} {p} (program r) = rw (refusal-read e s t n p r)
+table-refused {e} {s} {t} {n} {p} (Reading.shorthand h) = rw (spelling-exactly e s n p .1 h)
+table-refused {e} {s} {t} {n} {p} (Reading.tape (rows {f = f} l q r)) = rw (accepted e s f .1 (q, l), refused-exactly t n p .1 r)
+table-refused {e} {s} {t} {n} {p} (Reading.tape (program r)) = rw (refusal-read e s t n p r)
 
-pub tape-exactly : (e : ℕ) (s t : List ℕ) (n p : ℕ) → 4 ≤ n → (counted e s t ≡ refused n p) ↔ TapeRefusal e s t n p
-tape-exactly e s t n p l = (λ q. of-tape l (of-refused (count-answered e s t) q), tape-refused)
+pub reading-exactly : (e : ℕ) (s t : List ℕ) (n p : ℕ) → (counted e s t ≡ refused n p) ↔ Reading e s t n p
+reading-exactly e s t n p = (λ q. of-refused (count-answered e s t) q, table-refused)
 
 -- "a refused punching leaves the buffer untouched": what a refusal leaves of each thing that is handed back
 

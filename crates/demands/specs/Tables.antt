@@ -1,43 +1,22 @@
 -- The table of refusals as relations: each number with its place and what calls for it (document 01, "Refusal numbers").
 use Prim.Native.Nat.{ℕ, _^_, _≤_, _<_}
 use mathlib.Core.Path.{_≡_}
-use mathlib.Core.Logic.{_⊎_}
-use mathlib.Core.Bool.{not}
-use mathlib.Core.List.{List, [], _∷_, _++_}
-use lib.Dec.{T}
-use lib.ListN.{length, take}
+use mathlib.Core.List.{List}
+use lib.ListN.{length}
 use Rattle.rows.specs.Answer.{taken}
 use Rattle.rows.specs.Faults.{RowRefusal}
 use Rattle.shorthand.specs.declared.Format.{Format}
-use Rattle.shorthand.specs.Edition.{form, known}
 use Rattle.shorthand.specs.Spell.{spell}
 use Rattle.shorthand.specs.Lawful.{Lawful}
-use Rattle.shorthand.specs.Mending.{Mends}
+use Rattle.shorthand.specs.Mending.{Spelling}
 use Rattle.reading.specs.declared.Block.{Block}
 use Rattle.reading.specs.Answers.{counted}
 use Rattle.punching.specs.Rows.{rowsOf}
 use Rattle.places.specs.Faults.{RefusalOf}
 
--- the text spells a lawful Format of the edition
-pub record Spelt (e : ℕ) (s : List ℕ) : Type 0 where
-  pub format : Format
-  pub lawful : Lawful e format
-  pub text : s ≡ spell format
-
--- the bytes before place p are in order: there are none, or with "*" behind them or with their own they spell a Format
-abbrev pub InOrder : ℕ → List ℕ → ℕ → Type 0
-InOrder e s p = (p ≡ 0) ⊎ (Spelt e (take p s ++ (42 ∷ [])) ⊎ Spelt e (take p s))
-
--- 1, 2 and 3 of a shorthand: an unknown edition; the first byte of what no further bytes could mend, out of form or beyond the edition; a text that lacks bytes at its end
-pub data Spelling (e : ℕ) (s : List ℕ) : ℕ → ℕ → Type 0 where
-  edition : T (not (known e)) → Spelling e s 1 0
-  out-of-form : {p : ℕ} → T (known e) → p < length s → InOrder e s p → (Mends form s p → ⊥) → Spelling e s 2 p
-  beyond : {p : ℕ} → T (known e) → p < length s → InOrder e s p → (Mends e s p → ⊥) → Mends form s p → Spelling e s 3 p
-  lacking : T (known e) → (Spelt e s → ⊥) → (u : List ℕ) → Spelt e (s ++ u) → Spelling e s 2 (length s)
-
 -- 4 to 14 of a tape under a shorthand that is in order: 4 to 7 by its rows, 8 to 14 by what its kept rows could still have become
 pub data TapeRefusal (e : ℕ) (s t : List ℕ) : ℕ → ℕ → Type 0 where
-  rows : {n p : ℕ} → Spelt e s → RowRefusal t n p → TapeRefusal e s t n p
+  rows : {f : Format} {n p : ℕ} → Lawful e f → s ≡ spell f → RowRefusal t n p → TapeRefusal e s t n p
   program : {n p : ℕ} → RefusalOf e s t n p → TapeRefusal e s t n p
 
 -- 1 to 14 of a tape under an edition and a shorthand

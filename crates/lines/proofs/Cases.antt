@@ -10,9 +10,9 @@ use Rattle.rows.specs.Row.{entry}
 use Rattle.rows.specs.Stages.{lowest, scan, judged}
 use Rattle.rows.specs.Kept.{keptFrom}
 use Rattle.speeds.specs.Meaning.{meaning, speedFor}
-use Rattle.shorthand.specs.Edition.{rank, due, anyDue}
-use Rattle.shorthand.specs.Stand.{digitsOf, afterDigits, stand, standN}
-use Rattle.shorthand.specs.Parse.{itemsFrom, parsed}
+use Rattle.shorthand.specs.Order.{rank, due, after}
+use Rattle.shorthand.specs.Stand.{digitsOf, afterDigits, seen, stand, standN}
+use Rattle.shorthand.specs.Parse.{itemsFrom, parsedIn, parsed}
 use Rattle.words.specs.Figures.{run, figures}
 use Rattle.words.specs.Data.{dataAt}
 use Rattle.reading.specs.Parse.{wordsAt, blockAt, blocksAt}
@@ -45,5 +45,5 @@ cases =
     ∷ []
 
 pub listings : map (λ c. listing (c .input)) cases ≡ map (λ c. text (c .output)) cases
-unfolding listing headerOf listedUnder decimalIn indexOf indexAfter parsed itemsFrom stand standN digitsOf afterDigits rank due anyDue read judged lowest scan entry ones keptFrom programAt headAt blocksAt blockAt startAt wordsAt dataAt figures run speedFor meaning
+unfolding listing headerOf listedUnder decimalIn indexOf indexAfter parsed parsedIn itemsFrom seen stand standN digitsOf afterDigits rank due after read judged lowest scan entry ones keptFrom programAt headAt blocksAt blockAt startAt wordsAt dataAt figures run speedFor meaning
 listings = refl

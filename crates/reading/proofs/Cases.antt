@@ -10,9 +10,9 @@ use Rattle.rows.specs.Row.{even, entry}
 use Rattle.rows.specs.Stages.{lowest, scan, judged}
 use Rattle.rows.specs.Kept.{keptFrom}
 use Rattle.speeds.specs.Meaning.{meaning, speedFor}
-use Rattle.shorthand.specs.Edition.{rank, due, anyDue}
-use Rattle.shorthand.specs.Stand.{digitsOf, afterDigits, stand, standN}
-use Rattle.shorthand.specs.Parse.{itemsFrom, parsed}
+use Rattle.shorthand.specs.Order.{rank, due, after}
+use Rattle.shorthand.specs.Stand.{digitsOf, afterDigits, seen, stand, standN}
+use Rattle.shorthand.specs.Parse.{itemsFrom, parsedIn, parsed}
 use Rattle.shorthand.proofs.Cases.{bytes}
 use Rattle.words.specs.Figures.{run, figures}
 use Rattle.words.specs.Data.{dataAt}
@@ -87,5 +87,5 @@ without =
     ∷ []
 
 pub counts : map (λ c. counted (c .edition) (bytes (c .shorthand)) (rows (c .tape))) (withTabs ++ without) ≡ map (λ c. c .answer) (withTabs ++ without)
-unfolding ones entry lowest scan judged keptFrom meaning speedFor rank due anyDue digitsOf afterDigits stand standN itemsFrom parsed run figures dataAt wordsAt startAt blockAt headAt blocksAt programAt read readUnder
+unfolding ones entry lowest scan judged keptFrom meaning speedFor rank due after digitsOf afterDigits seen stand standN itemsFrom parsedIn parsed run figures dataAt wordsAt startAt blockAt headAt blocksAt programAt read readUnder
 counts = refl

@@ -5,9 +5,9 @@ use Prim.Native.String.{String, [] as end, _∷_ as _then_}
 use mathlib.Core.Path.{_≡_, refl}
 use mathlib.Core.List.{List, [], _∷_, map}
 use Rattle.rows.specs.Answer.{numberOf, placeOf}
-use Rattle.shorthand.specs.Edition.{rank, due, anyDue}
-use Rattle.shorthand.specs.Stand.{digitsOf, afterDigits, stand, standN}
-use Rattle.shorthand.specs.Parse.{itemsFrom, parsed}
+use Rattle.shorthand.specs.Order.{rank, due, after}
+use Rattle.shorthand.specs.Stand.{digitsOf, afterDigits, seen, stand, standN}
+use Rattle.shorthand.specs.Parse.{itemsFrom, parsedIn, parsed}
 
 pub record Case : Type 0 where
   pub edition : ℕ
@@ -40,5 +40,5 @@ cases =
     ∷ []
 
 answered : map {B = ℕ × ℕ} (λ c. let a = parsed (c .edition) (bytes (c .text)) in (numberOf a, placeOf a)) cases ≡ map {B = ℕ × ℕ} (λ c. (c .number, c .place)) cases
-unfolding parsed itemsFrom stand standN digitsOf afterDigits rank due anyDue
+unfolding parsed parsedIn itemsFrom seen stand standN digitsOf afterDigits rank due after
 answered = refl

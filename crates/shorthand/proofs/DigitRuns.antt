@@ -6,9 +6,9 @@ use mathlib.Core.Path.{_≡_, refl, ap, _∙_}
 use mathlib.Core.Bool.{Bool, true, false, cond}
 use mathlib.Core.List.{List, [], _∷_, _++_, map, append-assoc}
 use lib.Dec.{T, leb, leb→le, le→leb}
-use Rattle.shorthand.specs.Spell.{digit}
+use Rattle.shorthand.specs.Spell.{digit, isDigit}
 use Rattle.shorthand.specs.Lawful.{digitIn}
-use Rattle.shorthand.specs.Stand.{isDigit, digitsOf, afterDigits}
+use Rattle.shorthand.specs.Stand.{digitsOf, afterDigits}
 use Rattle.shorthand.specs.Mending.{apart}
 use Rattle.shorthand.proofs.Tests.{both, first, second, holds, fails}
 

@@ -1,7 +1,8 @@
 -- Fronts of a text: with one more item, and under the later edition.
 use Prim.Native.Nat.{ℕ}
 use mathlib.Core.Path.{_≡_, refl, sym, ap, subst}
-use mathlib.Core.Bool.{Bool, true, not}
+use mathlib.Core.Bool.{Bool, _&&_, _||_, not}
+use mathlib.Core.Logic.{⊎-elim}
 use mathlib.Core.List.{List, [], _∷_, _++_, map, append-assoc, append-nil}
 use lib.Dec.{T, eqb}
 use Rattle.shorthand.specs.declared.Missing.{Missing}
@@ -11,12 +12,16 @@ use Rattle.shorthand.specs.declared.Kind.the-variants.{Plain, Speed, Dim
 use Rattle.shorthand.specs.declared.Item.{Item}
 use Rattle.shorthand.specs.declared.Dots.{Dots}
 use Rattle.shorthand.specs.declared.Dots.the-variants.{Open, Dotted, Plainly}
+use Rattle.shorthand.specs.declared.Order.{Order}
+use Rattle.shorthand.specs.declared.Edition.{Edition}
+use Rattle.shorthand.specs.declared.Edition.the-variants.{Iso2539}
 use Rattle.shorthand.specs.Spell.{spellKind, spellDot, spellItem}
-use Rattle.shorthand.specs.Edition.{form, later, sequenceMost, rank, due, allowed}
-use Rattle.shorthand.specs.Lawful.{Class, plain, speed, dimension, classOf, figuresFit, kindFits}
+use Rattle.shorthand.specs.Edition.{later, sequenceMost, allowed}
+use Rattle.shorthand.specs.Lawful.{plainKind, speedKind, figuresFit, dimensionKind}
+use Rattle.shorthand.specs.Order.{dueAsDimension, feedDue, dimensionDue, turnDue, due, after}
 use Rattle.shorthand.specs.Stand.{figured, dotFits}
 use Rattle.shorthand.specs.Parse.{settle}
-use Rattle.shorthand.proofs.Tests.{both, first, second}
+use Rattle.shorthand.proofs.Tests.{both, first, second, left, right, either}
 use Rattle.shorthand.proofs.DigitRuns.{within, inside}
 use Rattle.shorthand.proofs.MadeKinds.{figured-says, dimensioned-of}
 use Rattle.shorthand.proofs.Standing.{Fit, sequence-small}
@@ -25,20 +30,19 @@ use Rattle.shorthand.proofs.Answered.{Front}
 
 -- ---- one more item
 
-steps-more : {e : ℕ} {dots dots′ : Dots} {last last′ : ℕ} {its : List Item} {x : List ℕ} (dot : Bool) (it : Item)
-    → Steps e dots last its dots′ last′ x → Fit e dots′ last′ dot it → Steps e dots last (its ++ (it ∷ [])) (settle dot) (rank (it .letter)) (x ++ spellItem dot it)
-steps-more {e} {dots} {last = last} dot it stay f =
-    subst (λ (l : List ℕ). Steps e dots last (it ∷ []) (settle dot) (rank (it .letter)) l) (append-nil (spellItem dot it)) (step dot f stay)
-steps-more {e} {dots} {last = last} dot it (step {it = it′} {its = its} {x = x} dot′ f′ s) f =
-    subst (λ (l : List ℕ). Steps e dots last (it′ ∷ (its ++ (it ∷ []))) (settle dot) (rank (it .letter)) l)
+steps-more : {e : Edition} {dots dots′ : Dots} {o o′ : Order} {its : List Item} {x : List ℕ} (dot : Bool) (it : Item)
+    → Steps e dots o its dots′ o′ x → Fit e dots′ o′ dot it → Steps e dots o (its ++ (it ∷ [])) (settle dot) (after o′ it) (x ++ spellItem dot it)
+steps-more {e} {dots} {o = o} dot it stay f =
+    subst (λ (l : List ℕ). Steps e dots o (it ∷ []) (settle dot) (after o it) l) (append-nil (spellItem dot it)) (step dot f stay)
+steps-more {e} {dots} {o = o} {o′ = o′} dot it (step {it = it′} {its = its} {x = x} dot′ f′ s) f =
+    subst (λ (l : List ℕ). Steps e dots o (it′ ∷ (its ++ (it ∷ []))) (settle dot) (after o′ it) l)
     (sym (append-assoc (spellItem dot′ it′) x (spellItem dot it)))
     (step dot′ f′ (steps-more dot it s f))
 
-pub front-more : {e : ℕ} {dots : Dots} {last : ℕ} {x : List ℕ} (dot : Bool) (it : Item) → Front e dots last x → Fit e dots last dot it
-    → Front e (settle dot) (rank (it .letter)) (x ++ spellItem dot it)
+pub front-more : {e : Edition} {dots : Dots} {o : Order} {x : List ℕ} (dot : Bool) (it : Item) → Front e dots o x → Fit e dots o dot it
+    → Front e (settle dot) (after o it) (x ++ spellItem dot it)
 front-more dot it h f =
     record {
-      edition = h .edition;
       seq = h .seq;
       sequence = h .sequence;
       its = h .its ++ (it ∷ []);
@@ -53,33 +57,38 @@ front-more dot it h f =
 abbrev widened : Kind → Kind
 widened (Plain n) = Plain n
 widened (Speed n) = Speed n
-widened (Dimension d) = figured form (d .mark) (d .missing) (d .before) (d .after)
+widened (Dimension d) = figured Iso2539 (d .mark) (d .missing) (d .before) (d .after)
 
 widened-spells : (k : Kind) → spellKind (widened k) ≡ spellKind k
 widened-spells (Plain n) = refl
 widened-spells (Speed n) = refl
 widened-spells (Dimension d) = refl
 
-figures-widen : (e : ℕ) (z : Missing) (a b : ℕ) → T (figuresFit e z a b) → T (figuresFit form z a b)
+figures-widen : (e : Edition) (z : Missing) (a b : ℕ) → T (figuresFit e z a b) → T (figuresFit Iso2539 z a b)
 figures-widen e Nothing a b h = h
 figures-widen e Leading a b h = second (later e) (not (eqb b 0)) h
 figures-widen e Trailing a b h = second (later e) (not (eqb a 0)) h
 
-widened-fits : (e : ℕ) (c : Class) (k : Kind) → T (kindFits e c k) → T (kindFits form c (widened k))
-widened-fits e (plain lo hi) (Plain n) h = h
-widened-fits e (plain lo hi) (Speed n) h = h
-widened-fits e (plain lo hi) (Dimension d) h = h
-widened-fits e speed (Plain n) h = h
-widened-fits e speed (Speed n) h = h
-widened-fits e speed (Dimension d) h = h
-widened-fits e dimension (Plain n) h = h
-widened-fits e dimension (Speed n) h = h
-widened-fits e dimension (Dimension d) h =
+dimension-widens : (e : Edition) (k : Kind) → T (dimensionKind e k) → T (dimensionKind Iso2539 (widened k))
+dimension-widens e (Plain n) h = h
+dimension-widens e (Speed n) h = h
+dimension-widens e (Dimension d) h =
     let l = dimensioned-of e d h in
     let fits = figures-widen e (d .missing) (d .before) (d .after) (l .fits) in
-    figured-says form (d .mark) (d .missing) (d .before) (d .after) _ refl (l .before) (l .after) fits .1
+    figured-says Iso2539 (d .mark) (d .missing) (d .before) (d .after) _ refl (l .before) (l .after) fits .1
 
-dots-widen : (e : ℕ) (dots : Dots) (dot : Bool) → T (dotFits e dots dot) → T (dotFits form dots dot)
+-- what has no figures stays
+plain-widens : (lo hi : ℕ) (k : Kind) → plainKind lo hi (widened k) ≡ plainKind lo hi k
+plain-widens lo hi (Plain n) = refl
+plain-widens lo hi (Speed n) = refl
+plain-widens lo hi (Dimension d) = refl
+
+speed-widens : (k : Kind) → speedKind (widened k) ≡ speedKind k
+speed-widens (Plain n) = refl
+speed-widens (Speed n) = refl
+speed-widens (Dimension d) = refl
+
+dots-widen : (e : Edition) (dots : Dots) (dot : Bool) → T (dotFits e dots dot) → T (dotFits Iso2539 dots dot)
 dots-widen e Open dot h = tt
 dots-widen e Dotted dot h = h
 dots-widen e Plainly dot h = h
@@ -87,27 +96,41 @@ dots-widen e Plainly dot h = h
 abbrev wide : Item → Item
 wide it = record { letter = it .letter; kind = widened (it .kind) }
 
-fit-wider : {e : ℕ} {dots : Dots} {last : ℕ} {dot : Bool} {it : Item} → Fit e dots last dot it → Fit form dots last dot (wide it)
-fit-wider {e} {dots} {last} {dot} {it} f =
-    record {
-      dotted = dots-widen e dots dot (f .dotted);
-      ready = record {
-        letter = both (due last (it .letter)) true (first (due last (it .letter)) (allowed e (it .letter)) (f .ready .letter)) tt;
-        kind = widened-fits e (classOf (it .letter)) (it .kind) (f .ready .kind);
-      };
-    }
+due-wider : (e : Edition) (o : Order) (it : Item) → T (due e o it) → T (due Iso2539 o (wide it))
+unfolding due
+due-wider e o it h =
+    let w = wide it in
+    let k = it .kind in
+    let c = it .letter in
+    ⊎-elim
+    (λ p. left (feedDue o w || dimensionDue Iso2539 o w) (turnDue o w)
+    (⊎-elim (λ q. left (feedDue o w) (dimensionDue Iso2539 o w) (rw (speed-widens k) q))
+    (λ q. let m = first (allowed e c && dimensionKind e k) (dueAsDimension o c) q in
+    right (feedDue o w) (dimensionDue Iso2539 o w)
+    (both (dimensionKind Iso2539 (widened k)) (dueAsDimension o c) (dimension-widens e k (second (allowed e c) (dimensionKind e k) m)) (second (allowed e c && dimensionKind e k) (dueAsDimension o c) q)))
+    (either (feedDue o it) (dimensionDue e o it) p)))
+    (λ q. right (feedDue o w || dimensionDue Iso2539 o w) (turnDue o w) (rw (plain-widens 2 2 k, plain-widens 1 9 k, speed-widens k) q))
+    (either (feedDue o it || dimensionDue e o it) (turnDue o it) h)
 
-steps-wider : {e : ℕ} {dots dots′ : Dots} {last last′ : ℕ} {its : List Item} {x : List ℕ} → Steps e dots last its dots′ last′ x
-    → Steps form dots last (map wide its) dots′ last′ x
+after-wider : (o : Order) (c : ℕ) (k : Kind) → after o (record { letter = c; kind = widened k }) ≡ after o (record { letter = c; kind = k })
+unfolding after
+after-wider o c (Plain n) = refl
+after-wider o c (Speed n) = refl
+after-wider o c (Dimension d) = refl
+
+fit-wider : {e : Edition} {dots : Dots} {o : Order} {dot : Bool} {it : Item} → Fit e dots o dot it → Fit Iso2539 dots o dot (wide it)
+fit-wider {e} {dots} {o} {dot} {it} f = record { dotted = dots-widen e dots dot (f .dotted); ready = due-wider e o it (f .ready) }
+
+steps-wider : {e : Edition} {dots dots′ : Dots} {o o′ : Order} {its : List Item} {x : List ℕ} → Steps e dots o its dots′ o′ x
+    → Steps Iso2539 dots o (map wide its) dots′ o′ x
 steps-wider stay = stay
-steps-wider {dots = dots} {dots′} {last} {last′} (step {it = it} {its = its} {x = x} dot f s) =
-    subst (λ (k : List ℕ). Steps form dots last (map wide (it ∷ its)) dots′ last′ (spellDot dot ++ (it .letter ∷ k) ++ x)) (widened-spells (it .kind))
-    (step dot (fit-wider f) (steps-wider s))
+steps-wider {dots = dots} {dots′} {o} {o′} (step {it = it} {its = its} {x = x} dot f s) =
+    subst (λ (k : List ℕ). Steps Iso2539 dots o (map wide (it ∷ its)) dots′ o′ (spellDot dot ++ (it .letter ∷ k) ++ x)) (widened-spells (it .kind))
+    (step dot (fit-wider f) (subst (λ (r : Order). Steps Iso2539 (settle dot) r (map wide its) dots′ o′ x) (sym (after-wider o (it .letter) (it .kind))) (steps-wider s)))
 
-pub front-wider : {e : ℕ} {dots : Dots} {last : ℕ} {x : List ℕ} → Front e dots last x → Front form dots last x
+pub front-wider : {e : Edition} {dots : Dots} {o : Order} {x : List ℕ} → Front e dots o x → Front Iso2539 dots o x
 front-wider {e} h =
     record {
-      edition = tt;
       seq = h .seq;
       sequence = inside 3 9 (h .seq) (within 3 (sequenceMost e) (h .seq) (h .sequence) .0) (sequence-small e (h .seq) (h .sequence));
       its = map wide (h .its);

@@ -1,61 +1,59 @@
--- The laws of mending: a refusal's place is the first byte of the first item that no further bytes could mend, and its number says whether they could bring it into form.
-use Prim.Native.Nat.{ℕ, _+_, _<_}
+-- The laws of mending: a text is refused by 1, 2 or 3 at a place exactly where the relation says so, so that one number and one place fit it.
+use Prim.Native.Nat.{ℕ, suc, _+_, _≤_, _<_}
+use native.Mathlib.Decide.{decLt}
 use native.Mathlib.Omega.{arith}
 use mathlib.Core.Path.{_≡_, refl, sym, ap, subst, _∙_}
 use mathlib.Core.Bool.{Bool, false, not}
-use mathlib.Core.Logic.{_≢_}
+use mathlib.Core.Logic.{_↔_, _⊎_, inl, inr}
 use mathlib.Core.List.{List, [], _∷_, _++_, append-assoc, append-nil, append-cancel-right}
-use lib.Dec.{T, T-not}
-use lib.ListN.{length, take, length-append}
-use lib.Seq.{take-append-seam, drop-append-seam, take-append-add}
-use Rattle.rows.specs.Answer.{taken, refused}
+use lib.Dec.{T, eqb}
+use lib.ListN.{length, getD, take, drop, length-append, take-append-drop}
+use lib.Seq.{take-append-seam, drop-append-seam, take-append-add, length-take-le, drop-cons}
+use Rattle.rows.specs.Answer.{Answer, taken, refused}
 use Rattle.shorthand.specs.declared.Format.{Format}
 use Rattle.shorthand.specs.declared.Item.{Item}
 use Rattle.shorthand.specs.declared.Dots.{Dots}
-use Rattle.shorthand.specs.Spell.{digit, spellKind, spellDot, spellItem}
-use Rattle.shorthand.specs.Edition.{form, known}
-use Rattle.shorthand.specs.Stand.{starts, Stand, whole, short, unfit, stand, standN}
-use Rattle.shorthand.specs.Parse.{beyond, parsed}
-use Rattle.shorthand.specs.Mending.{apart, Mends}
-use Rattle.shorthand.proofs.Tests.{holds}
+use Rattle.shorthand.specs.declared.Order.{Order}
+use Rattle.shorthand.specs.declared.Edition.{Edition}
+use Rattle.shorthand.specs.declared.Edition.the-variants.{Iso2539}
+use Rattle.shorthand.specs.Spell.{digit, spellKind, spellDot, spellItem, starts}
+use Rattle.shorthand.specs.Stand.{Stand, whole, short, unfit, seen, stand, standN}
+use Rattle.shorthand.specs.Parse.{beyond, itemsFrom, parsedIn, parsed}
+use Rattle.shorthand.specs.Mending.{apart, Spelt, Mends, Begins, first, later, Misspelt, out-of-form, beyond-edition, behind-star, lacking, Spelling, unknown, known}
+use Rattle.shorthand.proofs.Tests.{fails}
 use Rattle.shorthand.proofs.Standing.{Stands, stands, Numbers, numbers, number-reads}
 use Rattle.shorthand.proofs.Walking.{stay, steps-apart}
-use Rattle.shorthand.proofs.Answered.{Front, front-of, Ground, foreign, number-lacks, number-bars, ends, stars, follows, item-lacks, item-bars, grounds, starred-front}
+use Rattle.shorthand.proofs.Answered.{Front, front-of, Ground, number-lacks, number-bars, ends, stars, follows, item-lacks, item-bars, grounds, resumed, starred-front}
 use Rattle.shorthand.proofs.Fronts.{front-more, front-wider}
-use Rattle.shorthand.proofs.Starred.{starred, front-unstarred, star-starred}
 use Rattle.shorthand.proofs.Barred.{refused-not, whole-not, follower-hopeless, item-hopeless, item-unmended}
-use Rattle.shorthand.proofs.Accepted.{sound, mends-accepted}
+use Rattle.shorthand.proofs.Accepted.{spelt-accepted, accepted-spelt, mends-accepted, parsed-in, Numbered, edition, none, numbered}
 
 -- ---- the N item
 
 -- what is taken is a front and "*"
-record Fronted (e : ℕ) (t : List ℕ) : Type 0 where
+record Fronted (e : Edition) (t : List ℕ) : Type 0 where
   dots : Dots
-  last : ℕ
+  o : Order
   x : List ℕ
-  front : Front e dots last x
+  front : Front e dots o x
   splits : t ≡ x ++ (42 ∷ [])
 
-fronted : {e : ℕ} {t : List ℕ} {f : Format} → Ground e t (taken f) → Fronted e t
-fronted (stars {dots = dots} {last = last} {x = x} h) = record { dots = dots; last = last; x = x; front = h; splits = refl }
+fronted : {e : Edition} {t : List ℕ} {f : Format} → Ground e t (taken f) → Fronted e t
+fronted (stars {dots = dots} {o = o} {x = x} h) = record { dots = dots; o = o; x = x; front = h; splits = refl }
 
-empty-number : (e : ℕ) (t : List ℕ) → standN e t ≡ unfit → 0 ≡ length t → ⊥
+empty-number : (e : Edition) (t : List ℕ) → standN e t ≡ unfit → 0 ≡ length t → ⊥
 unfolding standN
 empty-number e [] q at = let z : _≡_ {A = ℕ} 0 1 = cc in omega arith
 empty-number e (b ∷ t) q at = omega arith
 
-foreign-never : (e : ℕ) → known e ≡ false → (t : List ℕ) (f : Format) → parsed e t ≡ taken f → ⊥
-unfolding parsed
-foreign-never e q t f r = let z : parsed e t ≡ refused 1 0 = rw q in refused-not z r
-
-module _ (e : ℕ) (k : T (known e)) (t : List ℕ) (past : standN e t ≡ unfit) where
+module _ (e : Edition) (t : List ℕ) (past : standN e t ≡ unfit) where
   number-stays : (u : List ℕ) → standN e (t ++ u) ≡ unfit
   number-stays = subst (Numbers e t) past (numbers e t)
 
-  number-hopeless : (u : List ℕ) (f : Format) → parsed e (t ++ u) ≡ taken f → ⊥
-  unfolding parsed
+  number-hopeless : (u : List ℕ) (f : Format) → parsedIn e (t ++ u) ≡ taken f → ⊥
+  unfolding parsedIn
   number-hopeless u f r =
-      let z : parsed e (t ++ u) ≡ refused (beyond (standN form (t ++ u))) 0 = rw (holds (known e) k, number-stays u) in
+      let z : parsedIn e (t ++ u) ≡ refused (beyond (standN Iso2539 (t ++ u))) 0 = rw (number-stays u) in
       refused-not z r
 
   number-unmended : Mends e t 0 → ⊥
@@ -69,38 +67,14 @@ module _ (e : ℕ) (k : T (known e)) (t : List ℕ) (past : standN e t ≡ unfit
 
 -- ---- no further bytes mend a text that is refused before its end
 
-hopeless-by : {e : ℕ} {t : List ℕ} {n p : ℕ} → Ground e t (refused n p) → p < length t
-    → (u : List ℕ) (f : Format) → parsed e (t ++ u) ≡ taken f → ⊥
-hopeless-by {e} {t} (foreign q) lt = λ u. foreign-never e q (t ++ u)
-hopeless-by (number-lacks k q) lt = absurd (omega arith)
-hopeless-by {e} {t} (number-bars k q) lt = number-hopeless e k t q
+hopeless-by : {e : Edition} {t : List ℕ} {n p : ℕ} → Ground e t (refused n p) → p < length t
+    → (u : List ℕ) (f : Format) → parsedIn e (t ++ u) ≡ taken f → ⊥
+hopeless-by (number-lacks q) lt = absurd (omega arith)
+hopeless-by {e} {t} (number-bars q) lt = number-hopeless e t q
 hopeless-by (ends h) lt = absurd (omega arith)
 hopeless-by (follows b t h) lt = follower-hopeless h b t
 hopeless-by (item-lacks {x = x} b t h r) lt = absurd (omega (arith, length-append x (b ∷ t)))
 hopeless-by (item-bars b t h s q r) lt = item-hopeless h b t s q r
-
--- ---- what stands before the place is in order
-
-in-order-by : {e : ℕ} {t : List ℕ} {n p : ℕ} → Ground e t (refused n p) → 0 < p → p < length t → T (not (starred t p))
-    → (f : Format) × (parsed e (take p t ++ (42 ∷ [])) ≡ taken f)
-in-order-by (foreign q) pos lt s = absurd (omega arith)
-in-order-by (number-lacks k q) pos lt s = absurd (omega arith)
-in-order-by (number-bars k q) pos lt s = absurd (omega arith)
-in-order-by (ends h) pos lt s = absurd (omega arith)
-in-order-by (follows {x = x} b t h) pos lt s = absurd (T-not (starred (x ++ (42 ∷ (b ∷ t))) (length x + 1)) s (star-starred x (b ∷ t)))
-in-order-by (item-lacks {x = x} b t h r) pos lt s = absurd (omega (arith, length-append x (b ∷ t)))
-in-order-by {e} (item-bars {x = x} b t h a q r) pos lt s =
-    (_, ap (λ (l : List ℕ). parsed e (l ++ (42 ∷ []))) (take-append-seam x (b ∷ t)) ∙ starred-front h)
-
-in-order-starred-by : {e : ℕ} {t : List ℕ} {n p : ℕ} → Ground e t (refused n p) → p < length t → T (starred t p)
-    → (f : Format) × (parsed e (take p t) ≡ taken f)
-in-order-starred-by (foreign q) lt s = absurd s
-in-order-starred-by (number-lacks k q) lt s = absurd (omega arith)
-in-order-starred-by (number-bars k q) lt s = absurd s
-in-order-starred-by (ends h) lt s = absurd (omega arith)
-in-order-starred-by {e} (follows {x = x} b t h) lt s = (_, ap (parsed e) (take-append-add x (42 ∷ (b ∷ t)) 1) ∙ starred-front h)
-in-order-starred-by (item-lacks {x = x} b t h r) lt s = absurd (omega (arith, length-append x (b ∷ t)))
-in-order-starred-by (item-bars {x = x} b t h a q r) lt s = absurd (T-not (starred (x ++ (b ∷ t)) (length x)) (front-unstarred h (b ∷ t)) s)
 
 -- ---- a text that only lacks its end can be completed
 
@@ -108,28 +82,11 @@ completed : (x t u w : List ℕ) {z : List ℕ} → t ++ u ≡ z → x ++ t ++ (
 completed x t u w q =
     append-assoc x t (u ++ w) ∙ ap (λ (l : List ℕ). x ++ l) (sym (append-assoc t u w)) ∙ sym (append-assoc x (t ++ u) w) ∙ ap (λ (l : List ℕ). x ++ l ++ w) q
 
-lacking-by : {e : ℕ} {t : List ℕ} {n p : ℕ} → Ground e t (refused n p) → T (known e) → p ≡ length t
-    → (u : List ℕ) × (f : Format) × (parsed e (t ++ u) ≡ taken f)
-lacking-by {e} (foreign q) k at = absurd (T-not (known e) (rw q tt) k)
-lacking-by {e} {t} (number-lacks k′ q) k at =
-    let m = subst (Numbers e t) q (numbers e t) in
-    (m .0 ++ (42 ∷ []), _, ap (parsed e) (completed [] t (m .0) (42 ∷ []) (m .3)) ∙ starred-front (front-of (m .1) k (m .2) stay))
-lacking-by {e} {t} (number-bars k′ q) k at = absurd (empty-number e t q at)
-lacking-by (ends h) k at = (42 ∷ [], _, starred-front h)
-lacking-by (follows {x = x} b t h) k at = absurd (omega (arith, length-append x (42 ∷ (b ∷ t))))
-lacking-by {e} (item-lacks {dots = dots} {last = last} {x = x} b t h r) k at =
-    let s = subst (Stands e dots last (b ∷ t)) r (stands e dots last b t) in
-    (s .0 ++ (42 ∷ []), _, ap (parsed e) (completed x (b ∷ t) (s .0) (42 ∷ []) (s .4)) ∙ starred-front (front-more (s .1) (s .2) h (s .3)))
-lacking-by (item-bars {x = x} b t h s q r) k at = absurd (omega (arith, length-append x (b ∷ t)))
+-- ---- what stands in form or in the edition mends
 
--- ---- the number: 3 where further bytes could bring the item into form, else 2
-
-mends-by : {dots : Dots} {last : ℕ} (x z : List ℕ) → Front form dots last (x ++ z) → (t u y : List ℕ)
-    → 0 < length z → T (apart y) → t ++ u ≡ z ++ y → Mends form (x ++ t) (length x)
-mends-by x z h t u y some stops q =
-    let got =
-    sound form (take (length x) (x ++ t) ++ (z ++ (42 ∷ []))) _
-    (ap (λ (l : List ℕ). parsed form (l ++ (z ++ (42 ∷ [])))) (take-append-seam x t) ∙ ap (parsed form) (sym (append-assoc x z (42 ∷ []))) ∙ starred-front h) in
+mends-by : {e : Edition} {dots : Dots} {o : Order} (x z : List ℕ) → Front e dots o (x ++ z) → (t u y : List ℕ)
+    → 0 < length z → T (apart y) → t ++ u ≡ z ++ y → Mends e (x ++ t) (length x)
+mends-by {e} x z h t u y some stops q =
     record {
       further = u;
       x = z;
@@ -137,116 +94,223 @@ mends-by x z h t u y some stops q =
       splits = ap (λ (l : List ℕ). l ++ u) (drop-append-seam x t) ∙ q;
       some = some;
       whole = stops;
-      format = _;
-      lawful = got .1;
-      spelt = got .0;
+      spelt =
+          accepted-spelt e (take (length x) (x ++ t) ++ (z ++ (42 ∷ []))) _
+          (ap (λ (l : List ℕ). parsedIn e (l ++ (z ++ (42 ∷ [])))) (take-append-seam x t) ∙ ap (parsedIn e) (sym (append-assoc x z (42 ∷ []))) ∙ starred-front h);
     }
-
-number-in-form : (t : List ℕ) (s : Stand ℕ) → Numbers form t s → beyond s ≡ 3 → Mends form t 0
-number-in-form t (whole seq rest) h q =
-    mends-by [] (78 ∷ digit seq ∷ []) (front-of seq tt (h .0) stay) t [] rest (omega arith) (h .2) (append-nil t ∙ h .1)
-number-in-form t short h q = mends-by [] (78 ∷ digit (h .1) ∷ []) (front-of (h .1) tt (h .2) stay) t (h .0) [] (omega arith) tt (h .3)
-number-in-form t unfit h q = absurd (omega arith)
 
 some-bytes : (dot : Bool) (it : Item) → 0 < length (spellItem dot it)
 some-bytes dot it = omega (arith, length-append (spellDot dot) (it .letter ∷ spellKind (it .kind)))
 
-item-in-form : {e : ℕ} {dots : Dots} {last : ℕ} {x : List ℕ} → Front e dots last x → (t : List ℕ) (s : Stand Item)
-    → Stands form dots last t s → beyond s ≡ 3 → Mends form (x ++ t) (length x)
-item-in-form {x = x} h t (whole it rest) s q =
+-- an item is past mending, or it mends
+number-mends : {e : Edition} (t : List ℕ) (s : Stand ℕ) → Numbers e t s → (s ≡ unfit) ⊎ Mends e t 0
+number-mends t (whole seq rest) h = inr (mends-by [] (78 ∷ digit seq ∷ []) (front-of seq (h .0) stay) t [] rest (omega arith) (h .2) (append-nil t ∙ h .1))
+number-mends t short h = inr (mends-by [] (78 ∷ digit (h .1) ∷ []) (front-of (h .1) (h .2) stay) t (h .0) [] (omega arith) tt (h .3))
+number-mends t unfit h = inl refl
+
+item-mends : {e : Edition} {dots : Dots} {o : Order} {x : List ℕ} → Front e dots o x → (t : List ℕ) (s : Stand Item) → Stands e dots o t s → (s ≡ unfit) ⊎ Mends e (x ++ t) (length x)
+item-mends {x = x} h t (whole it rest) s =
     let dot = starts 46 t in
-    mends-by x (spellItem dot it) (front-more dot it (front-wider h) (s .0)) t [] rest (some-bytes dot it) (s .2) (append-nil t ∙ s .1)
-item-in-form {x = x} h t short s q =
+    inr (mends-by x (spellItem dot it) (front-more dot it h (s .0)) t [] rest (some-bytes dot it) (s .2) (append-nil t ∙ s .1))
+item-mends {x = x} h t short s =
     let z = spellItem (s .1) (s .2) in
-    mends-by x z (front-more (s .1) (s .2) (front-wider h) (s .3)) t (s .0) [] (some-bytes (s .1) (s .2)) tt (s .4 ∙ sym (append-nil z))
-item-in-form h t unfit s q = absurd (omega arith)
+    inr (mends-by x z (front-more (s .1) (s .2) h (s .3)) t (s .0) [] (some-bytes (s .1) (s .2)) tt (s .4 ∙ sym (append-nil z)))
+item-mends h t unfit s = inl refl
 
-in-form-by : {e : ℕ} {t : List ℕ} {n p : ℕ} → Ground e t (refused n p) → n ≡ 3 → Mends form t p
-in-form-by (foreign q) i = absurd (omega arith)
-in-form-by (number-lacks k q) i = absurd (omega arith)
-in-form-by {t = t} (number-bars k q) i = number-in-form t (standN form t) (numbers form t) i
-in-form-by (ends h) i = absurd (omega arith)
-in-form-by (follows b t h) i = absurd (omega arith)
-in-form-by (item-lacks b t h r) i = absurd (omega arith)
-in-form-by (item-bars {dots = dots} {last = last} b t h s q r) i =
-    item-in-form h (b ∷ t) (stand form dots last (b ∷ t)) (stands form dots last b t) i
+-- ---- the number, at a place where an item is past mending
 
-before-end-by : {e : ℕ} {t : List ℕ} {n p : ℕ} → Ground e t (refused n p) → n ≡ 3 → p < length t
-before-end-by (foreign q) i = absurd (omega arith)
-before-end-by (number-lacks k q) i = absurd (omega arith)
-before-end-by {e} {t} (number-bars k q) i = let some : 0 ≢ length t = empty-number e t q in omega arith
-before-end-by (ends h) i = absurd (omega arith)
-before-end-by (follows b t h) i = absurd (omega arith)
-before-end-by (item-lacks b t h r) i = absurd (omega arith)
-before-end-by (item-bars {x = x} b t h s q r) i = omega (arith, length-append x (b ∷ t))
+past-by : {A : Type 0} {e : Edition} {t : List ℕ} {p : ℕ} (s : Stand A) → p < length t → Begins e t p → (Mends e t p → ⊥) → (s ≡ unfit) ⊎ Mends Iso2539 t p → (s ≡ unfit → Mends Iso2539 t p → ⊥)
+    → Misspelt e t (beyond s) p
+past-by (whole a rest) l b n (inl q) r = let z : _≡_ {A = ℕ} 0 1 = cc in absurd (omega arith)
+past-by (whole a rest) l b n (inr m) r = beyond-edition l b n m
+past-by short l b n (inl q) r = let z : _≡_ {A = ℕ} 0 1 = cc in absurd (omega arith)
+past-by short l b n (inr m) r = beyond-edition l b n m
+past-by unfit l b n q r = out-of-form l b n (r refl)
 
-follower-unmended : {e : ℕ} {dots : Dots} {last : ℕ} {x : List ℕ} → Front e dots last x → (b : ℕ) (t : List ℕ)
-    → Mends e (x ++ (42 ∷ (b ∷ t))) (length x + 1) → ⊥
-follower-unmended {e} {x = x} h b t m =
-    go (m .x) (m .some) (ap (λ (l : List ℕ). parsed e (l ++ (m .x ++ (42 ∷ [])))) (sym (take-append-add x (42 ∷ (b ∷ t)) 1)) ∙ mends-accepted m)
+-- ---- every refusal is one of the relation
+
+unspelt : {e : Edition} {t : List ℕ} {n p : ℕ} → parsedIn e t ≡ refused n p → Spelt e t → ⊥
+unspelt q s = refused-not q (spelt-accepted s)
+
+misspelt-by : {e : Edition} {t : List ℕ} {n p : ℕ} → Ground e t (refused n p) → (Spelt e t → ⊥) → Misspelt e t n p
+misspelt-by {e} {t} (number-lacks q) un =
+    let m = subst (Numbers e t) q (numbers e t) in
+    lacking un (m .0 ++ (42 ∷ [])) (accepted-spelt e _ _ (ap (parsedIn e) (completed [] t (m .0) (42 ∷ []) (m .3)) ∙ starred-front (front-of (m .1) (m .2) stay)))
+misspelt-by {e} {t} (number-bars q) un =
+    let some : 0 < length t = (let k = empty-number e t q in omega (arith, k)) in
+    past-by (standN Iso2539 t) some (first refl) (number-unmended e t q) (number-mends t (standN Iso2539 t) (numbers Iso2539 t)) (number-unmended Iso2539 t)
+misspelt-by {e} {t} (ends h) un = lacking un (42 ∷ []) (accepted-spelt e _ _ (starred-front h))
+misspelt-by {e} (follows {x = x} b t h) un =
+    let at : take (length x + 1) (x ++ (42 ∷ (b ∷ t))) ≡ x ++ (42 ∷ []) = take-append-add x (42 ∷ (b ∷ t)) 1 in
+    behind-star {p = length x + 1} (omega (arith, length-append x (42 ∷ (b ∷ t)))) (subst (Spelt e) (sym at) (accepted-spelt e _ _ (starred-front h)))
+misspelt-by {e} (item-lacks {dots = dots} {o = o} {x = x} b t h r) un =
+    let s = subst (Stands e dots o (b ∷ t)) r (stands e dots o b t) in
+    let at : length (x ++ (b ∷ t)) ≡ length x + length (b ∷ t) = length-append x (b ∷ t) in
+    subst (Misspelt e (x ++ (b ∷ t)) 2) at
+    (lacking un (s .0 ++ (42 ∷ [])) (accepted-spelt e _ _ (ap (parsedIn e) (completed x (b ∷ t) (s .0) (42 ∷ []) (s .4)) ∙ starred-front (front-more (s .1) (s .2) h (s .3)))))
+misspelt-by {e} (item-bars {dots = dots} {o = o} {x = x} b t h stops q r) un =
+    let front : Begins e (x ++ (b ∷ t)) (length x) =
+    later (subst (λ (l : List ℕ). Spelt e (l ++ (42 ∷ []))) (sym (take-append-seam x (b ∷ t))) (accepted-spelt e _ _ (starred-front h)))
+    (subst (λ (l : List ℕ). T (apart l)) (sym (drop-append-seam x (b ∷ t))) stops)
+    (subst (λ (l : List ℕ). T (not (starts 42 l))) (sym (drop-append-seam x (b ∷ t))) (rw q tt)) in
+    past-by (stand Iso2539 dots o (seen (b ∷ t))) (omega (arith, length-append x (b ∷ t))) front (item-unmended h b t stops q r)
+    (item-mends (front-wider h) (b ∷ t) (stand Iso2539 dots o (seen (b ∷ t))) (stands Iso2539 dots o b t))
+    (item-unmended (front-wider h) b t stops q)
+
+-- ---- and where the relation holds the text is refused so
+
+-- at a place where an item begins and is past mending
+numbered-by : {A : Type 0} {t : List ℕ} {p : ℕ} (s : Stand A) → (s ≡ unfit) ⊎ Mends Iso2539 t p → (s ≡ unfit → Mends Iso2539 t p → ⊥) → ((Mends Iso2539 t p → ⊥) → beyond s ≡ 2) × (Mends Iso2539 t p → beyond s ≡ 3)
+numbered-by (whole a rest) (inl q) r = let z : _≡_ {A = ℕ} 0 1 = cc in absurd (omega arith)
+numbered-by (whole a rest) (inr m) r = (λ n. absurd (n m), λ m. refl)
+numbered-by short (inl q) r = let z : _≡_ {A = ℕ} 0 1 = cc in absurd (omega arith)
+numbered-by short (inr m) r = (λ n. absurd (n m), λ m. refl)
+numbered-by unfit q r = (λ n. refl, λ m. absurd (r refl m))
+
+-- the number that the relation gives there
+abbrev Numbers-at : List ℕ → ℕ → ℕ → Type 0
+Numbers-at t p n = ((Mends Iso2539 t p → ⊥) → n ≡ 2) × (Mends Iso2539 t p → n ≡ 3)
+
+at-first : (e : Edition) (t : List ℕ) → (Mends e t 0 → ⊥) → (n : ℕ) × Numbers-at t 0 n × (parsedIn e t ≡ refused n 0)
+unfolding parsedIn
+at-first e t un = by (number-mends t (standN e t) (numbers e t))
   where
-    go : (z : List ℕ) → 0 < length z → parsed e (x ++ (42 ∷ []) ++ (z ++ (42 ∷ []))) ≡ taken (m .format) → ⊥
-    go [] some r = omega arith
-    go (c ∷ z) some r = follower-hopeless h c z (42 ∷ []) (m .format) (ap (parsed e) (sym (completed x (42 ∷ []) (c ∷ z) (42 ∷ []) refl)) ∙ r)
+    by : (standN e t ≡ unfit) ⊎ Mends e t 0 → (n : ℕ) × Numbers-at t 0 n × (parsedIn e t ≡ refused n 0)
+    by (inr m) = absurd (un m)
+    by (inl q) = (beyond (standN Iso2539 t), numbered-by (standN Iso2539 t) (number-mends t (standN Iso2539 t) (numbers Iso2539 t)) (number-unmended Iso2539 t), rw q)
 
-unmended-by : {e : ℕ} {t : List ℕ} {n p : ℕ} → Ground e t (refused n p) → p < length t → Mends e t p → ⊥
-unmended-by {e} (foreign q) lt = λ m. foreign-never e q (m .x ++ (42 ∷ [])) (m .format) (mends-accepted m)
-unmended-by (number-lacks k q) lt = absurd (omega arith)
-unmended-by {e} {t} (number-bars k q) lt = number-unmended e k t q
-unmended-by (ends h) lt = absurd (omega arith)
-unmended-by (follows b t h) lt = follower-unmended h b t
-unmended-by (item-lacks {x = x} b t h r) lt = absurd (omega (arith, length-append x (b ∷ t)))
-unmended-by (item-bars b t h s q r) lt = item-unmended h b t s q r
+module _ {e : Edition} {dots : Dots} {o : Order} {x : List ℕ} (h : Front e dots o x) (b : ℕ) (u : List ℕ) (stops : T (apart (b ∷ u))) (plain : eqb b 42 ≡ false) where
+  at-front : (Mends e (x ++ (b ∷ u)) (length x) → ⊥) → (n : ℕ) × Numbers-at (x ++ (b ∷ u)) (length x) n × (parsedIn e (x ++ (b ∷ u)) ≡ refused n (length x))
+  unfolding itemsFrom
+  at-front un = by (item-mends h (b ∷ u) (stand e dots o (seen (b ∷ u))) (stands e dots o b u))
+    where
+      by : (stand e dots o (seen (b ∷ u)) ≡ unfit) ⊎ Mends e (x ++ (b ∷ u)) (length x) → (n : ℕ) × Numbers-at (x ++ (b ∷ u)) (length x) n × (parsedIn e (x ++ (b ∷ u)) ≡ refused n (length x))
+      by (inr m) = absurd (un m)
+      by (inl q) = (
+        beyond (stand Iso2539 dots o (seen (b ∷ u))),
+        numbered-by (stand Iso2539 dots o (seen (b ∷ u))) (item-mends (front-wider h) (b ∷ u) (stand Iso2539 dots o (seen (b ∷ u))) (stands Iso2539 dots o b u))
+            (item-unmended (front-wider h) b u stops plain),
+        resumed h (b ∷ u) stops .2 ∙ rw (plain, q),
+      )
 
-two-unfit : {A : Type 0} (s : Stand A) → beyond s ≡ 2 → s ≡ unfit
-two-unfit (whole a rest) q = absurd (omega arith)
-two-unfit short q = absurd (omega arith)
-two-unfit unfit q = refl
+-- what is spelled with "*" behind it is a front
+front-at : {e : Edition} (x : List ℕ) → Spelt e (x ++ (42 ∷ [])) → (dots : Dots) × (o : Order) × Front e dots o x
+front-at {e} x s =
+    let r = fronted (subst (Ground e (x ++ (42 ∷ []))) (spelt-accepted s) (grounds e (x ++ (42 ∷ [])))) in
+    let same : r .x ≡ x = append-cancel-right (r .x) x (42 ∷ []) (sym (r .splits)) in
+    (r .dots, r .o, subst (Front e (r .dots) (r .o)) same (r .front))
 
-out-of-form-by : {e : ℕ} {t : List ℕ} {n p : ℕ} → Ground e t (refused n p) → n ≡ 2 → p < length t → Mends form t p → ⊥
-out-of-form-by (foreign q) i lt = absurd (omega arith)
-out-of-form-by (number-lacks k q) i lt = absurd (omega arith)
-out-of-form-by {t = t} (number-bars k q) i lt = number-unmended form tt t (two-unfit (standN form t) i)
-out-of-form-by (ends h) i lt = absurd (omega arith)
-out-of-form-by (follows b t h) i lt = follower-unmended (front-wider h) b t
-out-of-form-by (item-lacks {x = x} b t h r) i lt = absurd (omega (arith, length-append x (b ∷ t)))
-out-of-form-by (item-bars {dots = dots} {last = last} b t h s q r) i lt =
-    item-unmended (front-wider h) b t s q (two-unfit (stand form dots last (b ∷ t)) i)
+-- a text from a place within it on
+record Placed (t : List ℕ) (p : ℕ) : Type 0 where
+  x : List ℕ
+  b : ℕ
+  u : List ℕ
+  whole : t ≡ x ++ (b ∷ u)
+  before : take p t ≡ x
+  from : drop p t ≡ b ∷ u
+  long : length x ≡ p
 
--- ---- the laws of a refusal
+placed : (t : List ℕ) (p : ℕ) → p < length t → Placed t p
+placed t p l =
+    let from = drop-cons t p 0 l in
+    record {
+      x = take p t;
+      b = getD t p 0;
+      u = drop (suc p) t;
+      whole = sym (take-append-drop p t) ∙ ap (λ (y : List ℕ). take p t ++ y) from;
+      before = refl;
+      from = from;
+      long = length-take-le p t (omega (arith, l));
+    }
 
-module _ (e : ℕ) (t : List ℕ) (n p : ℕ) (answer : parsed e t ≡ refused n p) where
-  ground : Ground e t (refused n p)
-  ground = subst (Ground e t) answer (grounds e t)
+at-later : {e : Edition} (t : List ℕ) (p : ℕ) → p < length t → Spelt e (take p t ++ (42 ∷ [])) → T (apart (drop p t)) → T (not (starts 42 (drop p t))) → (Mends e t p → ⊥)
+    → (n : ℕ) × Numbers-at t p n × (parsedIn e t ≡ refused n p)
+at-later {e} t p l s stops star un =
+    let k = placed t p l in
+    let h = front-at (k .x) (subst (λ (y : List ℕ). Spelt e (y ++ (42 ∷ []))) (k .before) s) in
+    let apart-there : T (apart (k .b ∷ k .u)) = subst (λ (y : List ℕ). T (apart y)) (k .from) stops in
+    let plain : eqb (k .b) 42 ≡ false = fails (eqb (k .b) 42) (subst (λ (y : List ℕ). T (not (starts 42 y))) (k .from) star) in
+    let there : Mends e (k .x ++ (k .b ∷ k .u)) (length (k .x)) → ⊥ = λ m. un (subst (λ (y : List ℕ). Mends e y p) (sym (k .whole)) (subst (Mends e (k .x ++ (k .b ∷ k .u))) (k .long) m)) in
+    let r = at-front (h .2) (k .b) (k .u) apart-there plain there in
+    subst (λ (y : List ℕ). (n : ℕ) × Numbers-at y p n × (parsedIn e y ≡ refused n p)) (sym (k .whole))
+    (subst (λ (q : ℕ). (n : ℕ) × Numbers-at (k .x ++ (k .b ∷ k .u)) q n × (parsedIn e (k .x ++ (k .b ∷ k .u)) ≡ refused n q)) (k .long) r)
 
-  -- before the end: no bytes behind the text bring it to acceptance
-  pub hopeless : p < length t → (u : List ℕ) (f : Format) → parsed e (t ++ u) ≡ taken f → ⊥
-  hopeless = hopeless-by ground
+at-begin : {e : Edition} (t : List ℕ) (p : ℕ) → p < length t → Begins e t p → (Mends e t p → ⊥) → (n : ℕ) × Numbers-at t p n × (parsedIn e t ≡ refused n p)
+at-begin {e} t p l (first q) un =
+    let r = at-first e t (λ m. un (subst (Mends e t) (sym q) m)) in
+    subst (λ (i : ℕ). (n : ℕ) × Numbers-at t i n × (parsedIn e t ≡ refused n i)) (sym q) r
+at-begin t p l (later s stops star) un = at-later t p l s stops star un
 
-  -- and what stands before the place is accepted, with "*" behind it
-  pub in-order : 0 < p → p < length t → T (not (starred t p)) → (f : Format) × (parsed e (take p t ++ (42 ∷ [])) ≡ taken f)
-  in-order = in-order-by ground
+-- a byte after "*"
+followed : {e : Edition} (t : List ℕ) (p : ℕ) → p < length t → Spelt e (take p t) → parsedIn e t ≡ refused 2 p
+unfolding itemsFrom
+followed {e} t p l s =
+    let k = placed t p l in
+    let r = fronted (subst (Ground e (take p t)) (spelt-accepted s) (grounds e (take p t))) in
+    let same : t ≡ r .x ++ (42 ∷ (k .b ∷ k .u)) = k .whole ∙ ap (λ (y : List ℕ). y ++ (k .b ∷ k .u)) (sym (k .before) ∙ r .splits) ∙ append-assoc (r .x) (42 ∷ []) (k .b ∷ k .u) in
+    let at : length (r .x) + 1 ≡ p = (let a = ap length (sym (k .before) ∙ r .splits) in omega (arith, a, k .long, length-append (r .x) (42 ∷ []))) in
+    ap (parsedIn e) same ∙ resumed (r .front) (42 ∷ (k .b ∷ k .u)) tt .2 ∙ ap (refused 2) at
 
-  -- or as it stands, where its last byte is "*"
-  pub in-order-starred : p < length t → T (starred t p) → (f : Format) × (parsed e (take p t) ≡ taken f)
-  in-order-starred = in-order-starred-by ground
+-- a text that lacks bytes
+within-by : {e : Edition} {t : List ℕ} {n p : ℕ} → Ground e t (refused n p) → p ≤ length t
+within-by (number-lacks q) = omega arith
+within-by (number-bars q) = omega arith
+within-by (ends h) = omega arith
+within-by (follows {x = x} b t h) = omega (arith, length-append x (42 ∷ (b ∷ t)))
+within-by (item-lacks {x = x} b t h r) = omega (arith, length-append x (b ∷ t))
+within-by (item-bars {x = x} b t h s q r) = omega (arith, length-append x (b ∷ t))
 
-  -- at the length: some bytes behind the text bring it to acceptance
-  pub lacking : T (known e) → p ≡ length t → (u : List ℕ) × (f : Format) × (parsed e (t ++ u) ≡ taken f)
-  lacking = lacking-by ground
+end-two : {e : Edition} {t : List ℕ} {n p : ℕ} → Ground e t (refused n p) → p ≡ length t → n ≡ 2
+end-two (number-lacks q) at = refl
+end-two {e} {t} (number-bars q) at = absurd (empty-number e t q at)
+end-two (ends h) at = refl
+end-two (follows b u h) at = refl
+end-two (item-lacks b u h r) at = refl
+end-two (item-bars {x = x} b u h s q r) at = absurd (omega (arith, at, length-append x (b ∷ u)))
 
-  -- before the end: no bytes behind the text make what begins at the place an item of the edition
-  pub unmended : p < length t → Mends e t p → ⊥
-  unmended = unmended-by ground
+lacked : (e : Edition) (t : List ℕ) → (Spelt e t → ⊥) → (u : List ℕ) → Spelt e (t ++ u) → parsedIn e t ≡ refused 2 (length t)
+lacked e t un u s = by (parsedIn e t) refl (grounds e t)
+  where
+    by : (a : Answer Format) → parsedIn e t ≡ a → Ground e t a → a ≡ refused 2 (length t)
+    by (taken f) q g = absurd (un (accepted-spelt e t f q))
+    by (refused n p) q g = elim (decLt p (length t)) [
+      | yes l ↦ absurd (hopeless-by g l u (s .format) (spelt-accepted s))
+      | no l ↦ (let w = within-by g in let at : p ≡ length t = omega (arith, l, w) in let two = end-two g at in rw (two, at))
+    ]
 
-  -- 3 is given before the end only
-  pub before-end : n ≡ 3 → p < length t
-  before-end = before-end-by ground
+misspelt-refused : {e : Edition} {t : List ℕ} {n p : ℕ} → Misspelt e t n p → parsedIn e t ≡ refused n p
+misspelt-refused {t = t} {p = p} (out-of-form l b un no-form) = let r = at-begin t p l b un in r .2 ∙ ap (λ m. refused m p) (r .1 .0 no-form)
+misspelt-refused {t = t} {p = p} (beyond-edition l b un m) = let r = at-begin t p l b un in r .2 ∙ ap (λ k. refused k p) (r .1 .1 m)
+misspelt-refused {t = t} {p = p} (behind-star l s) = followed t p l s
+misspelt-refused {e} {t} (lacking un u s) = lacked e t un u s
 
-  -- and some bytes bring the item into form
-  pub in-form : n ≡ 3 → Mends form t p
-  in-form = in-form-by ground
+-- ---- exactly
 
-  -- 2 before the end: none do
-  pub out-of-form : n ≡ 2 → p < length t → Mends form t p → ⊥
-  out-of-form = out-of-form-by ground
+pub misspelt-exactly : (e : Edition) (t : List ℕ) (n p : ℕ) → (parsedIn e t ≡ refused n p) ↔ Misspelt e t n p
+misspelt-exactly e t n p = (λ q. misspelt-by (subst (Ground e t) q (grounds e t)) (unspelt q), misspelt-refused)
+
+-- refused by that number at that place where, and only where, the relation says so
+module _ (n : ℕ) (t : List ℕ) (m p : ℕ) where
+  refused-spelling : parsed n t ≡ refused m p → Spelling n t m p
+  refused-spelling q = by (numbered n t)
+    where
+      by : Numbered n t → Spelling n t m p
+      by (edition e h) = known e h (misspelt-exactly e t m p .0 (sym (parsed-in e t) ∙ ap (λ i. parsed i t) (sym h) ∙ q))
+      by (none h r) = let w : _≡_ {A = Answer Format} (refused 1 0) (refused m p) = sym r ∙ q in let a : 1 ≡ m = cc in let b : 0 ≡ p = cc in rw (sym a, sym b) (unknown h)
+
+  spelling-refused : Spelling n t m p → parsed n t ≡ refused m p
+  spelling-refused s = by s (numbered n t)
+    where
+      by : {m p : ℕ} → Spelling n t m p → Numbered n t → parsed n t ≡ refused m p
+      by (unknown h) (edition e q) = absurd (h e q)
+      by (unknown h) (none k r) = r
+      by {m} {p} (known e q s) k = ap (λ i. parsed i t) q ∙ parsed-in e t ∙ misspelt-exactly e t m p .1 s
+
+  pub spelling-exactly : (parsed n t ≡ refused m p) ↔ Spelling n t m p
+  spelling-exactly = (refused-spelling, spelling-refused)
+
+-- one number and one place fit a text
+pub one-place : (n : ℕ) (t : List ℕ) {m p k q : ℕ} → Spelling n t m p → Spelling n t k q → (m ≡ k) × (p ≡ q)
+one-place n t {m} {p} {k} {q} a b =
+    let r : _≡_ {A = Answer Format} (refused m p) (refused k q) = sym (spelling-exactly n t m p .1 a) ∙ spelling-exactly n t k q .1 b in
+    (cc, cc)

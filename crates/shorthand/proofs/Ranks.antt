@@ -1,54 +1,36 @@
--- The order of the letters: what is due is one of the 22, and its rank is above the last one's.
-use Prim.Native.Nat.{ℕ, suc, _+_, _≤_, _<_}
+-- The letters and their order: a fact over some letters is one computed test over their list, and none ranks above M.
+use Prim.Native.Nat.{ℕ, suc, _+_, _≤_}
 use native.Mathlib.Omega.{arith}
-use mathlib.Core.Bool.{Bool, true, _&&_, _||_}
+use mathlib.Core.Path.{_≡_, refl, subst}
 use mathlib.Core.Logic.{⊎-elim}
+use mathlib.Core.Bool.{Bool, true, false, _&&_, not}
 use mathlib.Core.List.{List, [], _∷_}
-use lib.Dec.{T, eqb, ltb, eqb→eq, ltb→lt}
+use lib.Dec.{T, eqb, eqb→eq}
 use lib.ListN.{length}
-use Rattle.shorthand.specs.Edition.{letters, placeIn, rank, due, allowed, anyOf, anyDue}
-use Rattle.shorthand.proofs.Tests.{first, second, left, right, either, by-test}
+use borrow.Author.Tests.{le-ltb, lt-leb, ltb-false}
+use Rattle.shorthand.specs.declared.Order.{Order}
+use Rattle.shorthand.specs.Edition.{letters, anyOf}
+use Rattle.shorthand.specs.Lawful.{axes}
+use Rattle.shorthand.specs.Order.{placeIn, rank, used, dueInTurn, dueAsFeed, dueAsDimension}
+use Rattle.shorthand.proofs.Tests.{first, second, either, fails, by-test}
 
 abbrev pub allOf : (ℕ → Bool) → List ℕ → Bool
 allOf g [] = true
 allOf g (c ∷ cs) = g c && allOf g cs
 
-module _ (g : ℕ → Bool) (last c : ℕ) where
-  placed-all : (ls : List ℕ) (i : ℕ) → T (allOf g ls) → T (ltb last (placeIn ls i c)) → T (g c)
-  placed-all [] i a = λ h. absurd (let z = ltb→lt last 0 h in omega arith)
-  placed-all (l ∷ ls) i a =
-      by-test (λ (n : ℕ). T (ltb last n) → T (g c)) (eqb c l)
-      (λ t h. rw (eqb→eq c l t) (first (g l) (allOf g ls) a))
-      (λ t. placed-all ls (suc i) (second (g l) (allOf g ls) a))
+abbrev pub among : List ℕ → ℕ → Bool
+among cs c = anyOf (λ d. eqb d c) cs
 
-  placed-any : (ls : List ℕ) (i : ℕ) → T (g c) → T (ltb last (placeIn ls i c)) → T (anyOf g ls)
-  placed-any [] i a = λ h. absurd (let z = ltb→lt last 0 h in omega arith)
-  placed-any (l ∷ ls) i a =
-      by-test (λ (n : ℕ). T (ltb last n) → T (g l || anyOf g ls)) (eqb c l)
-      (λ t h. left (g l) (anyOf g ls) (rw (eqb→eq c l t) at a))
-      (λ t h. right (g l) (anyOf g ls) (placed-any ls (suc i) a h))
+-- a test that all letters of a list pass is passed by each of them
+pub among-is : (g : ℕ → Bool) (cs : List ℕ) → T (allOf g cs) → (c : ℕ) → T (among cs c) → T (g c)
+among-is g [] a c h = absurd h
+among-is g (d ∷ cs) a c h =
+    ⊎-elim {C = T (g c)}
+    (λ t. subst (λ (n : ℕ). T (g n)) (eqb→eq d c t) (first (g d) (allOf g cs) a))
+    (λ t. among-is g cs (second (g d) (allOf g cs) a) c t)
+    (either (eqb d c) (among cs c) h)
 
-some-of : (g : ℕ → Bool) (ls : List ℕ) → T (anyOf g ls) → (c : ℕ) × T (g c)
-some-of g [] h = absurd h
-some-of g (l ∷ ls) h = ⊎-elim {C = (c : ℕ) × T (g c)} (λ t. (l, t)) (λ t. some-of g ls t) (either (g l) (anyOf g ls) h)
-
--- a test that all the letters pass is passed by whatever is due
-pub letter-is : (g : ℕ → Bool) → T (allOf g letters) → (last c : ℕ) → T (due last c) → T (g c)
-unfolding due rank
-letter-is g a last c h = placed-all g last c letters 1 a h
-
-pub due-above : (last c : ℕ) → T (due last c) → last < rank c
-unfolding due
-due-above last c h = ltb→lt last (rank c) h
-
--- something may still follow exactly where some letter may
-pub any-due : (e last c : ℕ) → T (due last c && allowed e c) → T (anyDue e last)
-unfolding due rank anyDue
-any-due e last c h = placed-any (λ c. due last c && allowed e c) last c letters 1 h (first (due last c) (allowed e c) h)
-
-pub some-due : (e last : ℕ) → T (anyDue e last) → (c : ℕ) × T (due last c && allowed e c)
-unfolding anyDue
-some-due e last h = some-of (λ c. due last c && allowed e c) letters h
+-- ---- ranks
 
 pub rank-most : (c : ℕ) → rank c ≤ 22
 unfolding rank
@@ -57,3 +39,22 @@ rank-most c = place-most letters 0
     place-most : (ls : List ℕ) (i : ℕ) → placeIn ls (suc i) c ≤ i + length ls
     place-most [] i = omega arith
     place-most (l ∷ ls) i = by-test (λ (n : ℕ). n ≤ i + suc (length ls)) (eqb c l) (λ h. omega arith) (λ h. let k = place-most ls (suc i) in omega arith)
+
+-- behind M nothing is due
+module _ (o : Order) (h : T (not (dueInTurn o 77))) where
+  at-end : 22 ≤ o .last
+  unfolding rank
+  at-end = ltb-false (o .last) 22 (fails (dueInTurn o 77) h)
+
+  pub none-in-turn : (c : ℕ) → dueInTurn o c ≡ false
+  none-in-turn c = let m = rank-most c in let l = at-end in le-ltb (o .last) (rank c) (omega (arith, m, l))
+
+  pub none-as-feed : (c : ℕ) → dueAsFeed o c ≡ false
+  none-as-feed c = rw (lt-leb (o .last) 19 (let l = at-end in omega (arith, l)))
+
+  pub none-as-dimension : (c : ℕ) → dueAsDimension o c ≡ false
+  none-as-dimension c = rw (none-in-turn c) (by (anyOf (λ d. eqb d c) axes))
+    where
+      by : (b : Bool) → (b && false && not (used o c)) ≡ false
+      by true = refl
+      by false = refl

@@ -12,7 +12,8 @@ use borrow.Author.Tests.{leb-true}
 use Rattle.shorthand.specs.declared.Digits.{Digits}
 use Rattle.shorthand.specs.declared.Digits.the-variants.{Empty}
 use Rattle.shorthand.specs.Lawful.{digitIn}
-use Rattle.shorthand.specs.Stand.{isDigit, digitsOf, afterDigits}
+use Rattle.shorthand.specs.Spell.{isDigit}
+use Rattle.shorthand.specs.Stand.{digitsOf, afterDigits}
 use Rattle.shorthand.specs.Places.{added, addedAll, Begins}
 
 -- the byte at a place, and the text behind it

@@ -2,26 +2,30 @@
 use Prim.Native.Nat.{ℕ, _+_, _≤_}
 use native.Mathlib.Omega.{arith}
 use mathlib.Core.Path.{_≡_, refl, sym, ap, ap₂, subst, _∙_}
-use mathlib.Core.Bool.{Bool, true, false, _&&_, not, cond}
-use mathlib.Core.List.{List, [], _∷_, _++_, map, append-assoc}
+use mathlib.Core.Bool.{Bool, true, false, not, cond}
+use mathlib.Core.List.{List, [], _∷_, _++_, map, append-assoc, append-nil}
 use borrow.Author.Tests.{ne-eqb}
-use lib.Dec.{T, T-not, eqb, eqb→eq}
+use lib.Dec.{T, eqb, eqb→eq}
 use Rattle.shorthand.specs.declared.Mark.{Mark}
 use Rattle.shorthand.specs.declared.Mark.the-variants.{Unmarked, Plus, Delta}
 use Rattle.shorthand.specs.declared.Kind.{Kind}
-use Rattle.shorthand.specs.declared.Kind.the-variants.{Plain, Speed}
+use Rattle.shorthand.specs.declared.Kind.the-variants.{Plain}
 use Rattle.shorthand.specs.declared.Item.{Item}
+use Rattle.shorthand.specs.declared.Order.{Order}
+use Rattle.shorthand.specs.declared.Edition.{Edition}
 use Rattle.shorthand.specs.declared.Dots.{Dots}
-use Rattle.shorthand.specs.Spell.{digit, spellMark, spellKind, spellDot, spellItem}
-use Rattle.shorthand.specs.Edition.{later, sequenceMost, letters, due, allowed, anyDue}
-use Rattle.shorthand.specs.Lawful.{digitIn, Class, plain, speed, dimension, classOf, kindFits}
-use Rattle.shorthand.specs.Stand.{starts, without, digitsOf, afterDigits, markOf, afterMark, Made, more, oneDigit, kindMade, Stand, whole, short, unfit, lettered, named, dotFits, stand, standN}
+use Rattle.shorthand.specs.Spell.{digit, spellMark, spellKind, spellDot, spellItem, starts}
+use Rattle.shorthand.specs.Edition.{letters, later, sequenceMost}
+use Rattle.shorthand.specs.Lawful.{digitIn}
+use Rattle.shorthand.specs.Order.{anyDue, due}
+use Rattle.shorthand.specs.Stand.{digitsOf, afterDigits, markOf, afterMark, pieces, Made, made, more, wrong, oneDigit, Stand, whole, short, unfit, closed, lettered, item, behindDot, seen, dotOf, named, dotFits, stand, standN}
 use Rattle.shorthand.specs.Mending.{apart}
-use Rattle.shorthand.proofs.Tests.{first, holds, fails, by-test}
+use Rattle.shorthand.proofs.Tests.{holds, fails, by-test}
 use Rattle.shorthand.proofs.DigitRuns.{within}
-use Rattle.shorthand.proofs.Closing.{closing, Closes, closes, reads}
-use Rattle.shorthand.proofs.MadeKinds.{one-makes, Says, Sane, sane, kind-makes, kind-shown}
-use Rattle.shorthand.proofs.Ranks.{allOf, letter-is, any-due, some-due}
+use Rattle.shorthand.proofs.Closing.{Makes, closing, Closes, closes, reads}
+use Rattle.shorthand.proofs.MadeKinds.{one-makes, itemOf, read, Makes-due, kind-makes, none-wrong, none-due, m-due, kind-shown}
+use Rattle.shorthand.proofs.Ranks.{allOf, among-is}
+use Rattle.shorthand.proofs.Grammar.{due-letter}
 
 -- ---- the mark
 
@@ -54,36 +58,33 @@ after-mark-read Delta a x h = refl
 
 -- ---- behind the letter
 
-abbrev itemOf : ℕ → Kind → Item
-itemOf c k = record { letter = c; kind = k }
+module _ (e : Edition) (o : Order) (c : ℕ) where
+  abbrev the : Kind → Item
+  the k = itemOf e o c k
 
-some-kind : (e : ℕ) (c : Class) → Sane c → (k : Kind) × T (kindFits e c k)
-some-kind e (plain lo hi) s = (Plain lo, s .0)
-some-kind e speed s = (Speed 3, tt)
-some-kind e dimension s = let h = kind-makes e dimension Unmarked tt [] tt in (h .1, h .2 .1)
-
-no-digits : (e : ℕ) (c : Class) → kindMade e c Unmarked [] ≡ more
-no-digits e (plain lo hi) = refl
-no-digits e speed = refl
-no-digits e dimension = refl
-
-module _ (e c : ℕ) where
   abbrev Letters : List ℕ → Stand Item → Type 0
-  Letters t (whole it rest) = (k : Kind) × (it ≡ itemOf c k) × (t ≡ spellKind k ++ rest) × T (kindFits e (classOf c) k) × T (apart rest)
-  Letters t short = (u : List ℕ) × (k : Kind) × (t ++ u ≡ spellKind k) × T (kindFits e (classOf c) k)
-  Letters t unfit = (u : List ℕ) → lettered e c (t ++ u) ≡ unfit
+  Letters t (whole it rest) = (k : Kind) × (it ≡ the k) × (t ≡ spellKind k ++ rest) × T (due e o (the k)) × T (apart rest)
+  Letters t short = (u : List ℕ) × (k : Kind) × (t ++ u ≡ spellKind k) × T (due e o (the k))
+  Letters t unfit = (u : List ℕ) → lettered e o (pieces c (t ++ u)) ≡ unfit
 
-  letter-stands : (t : List ℕ) → Letters t (lettered e c t)
+  -- the text ends with the letter
+  letter-last : Letters [] (lettered e o (pieces c []))
   unfolding digitsOf afterDigits
-  letter-stands [] = let k = some-kind e (classOf c) (sane c) in rw (no-digits e (classOf c)) (spellKind (k .0), k .0, refl, k .1)
-  letter-stands (b ∷ t) =
-      go (lettered e c (b ∷ t))
-      (closes (kindMade e (classOf c) m) (Says e m (classOf c)) (itemOf c) (kind-makes e (classOf c) m (sane c)) (afterMark (b ∷ t)))
+  letter-last = by (read e o c Unmarked []) refl (kind-makes e o c Unmarked [] tt)
+    where
+      by : (m : Made Kind) → read e o c Unmarked [] ≡ m → Makes (read e o c Unmarked) (Makes-due e o c Unmarked) [] m → Letters [] (closed the m [])
+      by (made k) q h = (k, refl, sym (append-nil (spellKind k) ∙ h .0), h .1, tt)
+      by more q h = (map digit (h .0), h .1, sym (h .2 .0), h .2 .1)
+      by wrong q h = λ u. rw (none-wrong e o c q (markOf u) (digitsOf (afterMark u)))
+
+  letter-stands : (t : List ℕ) → Letters t (lettered e o (pieces c t))
+  letter-stands [] = letter-last
+  letter-stands (b ∷ t) = go (lettered e o (pieces c (b ∷ t))) (closes (read e o c m) (Makes-due e o c m) the (kind-makes e o c m) (afterMark (b ∷ t)))
     where
       m : Mark
       m = markOf (b ∷ t)
 
-      go : (s : Stand Item) → Closes (kindMade e (classOf c) m) (Says e m (classOf c)) (itemOf c) (afterMark (b ∷ t)) s → Letters (b ∷ t) s
+      go : (s : Stand Item) → Closes (read e o c m) (Makes-due e o c m) the (afterMark (b ∷ t)) s → Letters (b ∷ t) s
       go (whole it rest) h = (
         h .1,
         h .2,
@@ -101,60 +102,42 @@ module _ (e c : ℕ) where
       )
       go unfit h = λ u. rw (mark-further b t u) (h u)
 
-  letter-reads : (k : Kind) (rest : List ℕ) → T (kindFits e (classOf c) k) → T (apart rest) → lettered e c (spellKind k ++ rest) ≡ whole (itemOf c k) rest
+  letter-reads : (k : Kind) (rest : List ℕ) → T (due e o (the k)) → T (apart rest) → lettered e o (pieces c (spellKind k ++ rest)) ≡ whole (the k) rest
   letter-reads k rest h stops =
-      let s = kind-shown e (classOf c) k (sane c) h in
+      let s = kind-shown e o c k h in
       let x = map digit (s .digits) ++ rest in
-      ap (λ (l : List ℕ). lettered e c (l ++ rest)) (s .spells)
-      ∙ ap (lettered e c) (append-assoc (spellMark (s .mark)) (map digit (s .lead ∷ s .digits)) rest)
-      ∙ ap₂ (λ (m : Mark). closing (kindMade e (classOf c) m) (Says e m (classOf c)) (itemOf c)) (mark-read (s .mark) (s .lead) x (s .small .0))
+      ap (λ (l : List ℕ). lettered e o (pieces c (l ++ rest))) (s .spells)
+      ∙ ap (λ (l : List ℕ). lettered e o (pieces c l)) (append-assoc (spellMark (s .mark)) (map digit (s .lead ∷ s .digits)) rest)
+      ∙ ap₂ (λ (m : Mark). closing (read e o c m) (Makes-due e o c m) the) (mark-read (s .mark) (s .lead) x (s .small .0))
       (after-mark-read (s .mark) (s .lead) x (s .small .0))
-      ∙ reads (kindMade e (classOf c) (s .mark)) (Says e (s .mark) (classOf c)) (itemOf c) (s .lead ∷ s .digits) rest (s .makes) (s .small) stops
+      ∙ reads (read e o c (s .mark)) (Makes-due e o c (s .mark)) the (s .lead ∷ s .digits) rest (s .makes) (s .small) stops
 
 -- ---- from the letter on
 
--- an item that may stand after the letter of rank last
-pub record Due (e last : ℕ) (it : Item) : Type 0 where
-  pub letter : T (due last (it .letter) && allowed e (it .letter))
-  pub kind : T (kindFits e (classOf (it .letter)) (it .kind))
+-- the letter of an item that may come passes whatever all the letters pass
+pub letter-is : (e : Edition) (o : Order) (it : Item) → T (due e o it) → (g : ℕ → Bool) → T (allOf g letters) → T (g (it .letter))
+letter-is e o it d g a = among-is g letters a (it .letter) (due-letter e o it d)
 
--- its letter passes whatever all the letters pass
-pub due-letter : {e last : ℕ} {it : Item} → Due e last it → (g : ℕ → Bool) → T (allOf g letters) → T (g (it .letter))
-due-letter {e} {last} {it} d g a = letter-is g a last (it .letter) (first (due last (it .letter)) (allowed e (it .letter)) (d .letter))
-
-module _ (e last : ℕ) where
+module _ (e : Edition) (o : Order) (dot : Bool) where
   abbrev Names : List ℕ → Stand Item → Type 0
-  Names t (whole it rest) = Due e last it × (t ≡ it .letter ∷ (spellKind (it .kind) ++ rest)) × T (apart rest)
-  Names t short = (u : List ℕ) × (it : Item) × Due e last it × (t ++ u ≡ it .letter ∷ spellKind (it .kind))
-  Names t unfit = (u : List ℕ) → named e last (t ++ u) ≡ unfit
+  Names t (whole it rest) = T (due e o it) × (t ≡ it .letter ∷ (spellKind (it .kind) ++ rest)) × T (apart rest)
+  Names t short = (u : List ℕ) × (it : Item) × T (due e o it) × (t ++ u ≡ it .letter ∷ spellKind (it .kind))
+  Names t unfit = (u : List ℕ) → named e o (behindDot dot (t ++ u)) ≡ unfit
 
-  name-stands : (t : List ℕ) → Names t (named e last t)
+  name-stands : (t : List ℕ) → Names t (named e o (behindDot dot t))
   name-stands [] =
-      by-test (Names []) (anyDue e last) some none
+      by-test (Names []) (anyDue o) (λ h. (77 ∷ 50 ∷ [], itemOf e o 77 (Plain 2), m-due e o h, refl)) none
     where
-      some : T (anyDue e last) → Names [] short
-      some h =
-          let c = some-due e last h in
-          let k = some-kind e (classOf (c .0)) (sane (c .0)) in
-          ((c .0) ∷ spellKind (k .0), itemOf (c .0) (k .0), record { letter = c .1; kind = k .1 }, refl)
-
-      none : T (not (anyDue e last)) → (u : List ℕ) → named e last u ≡ unfit
-      none h [] = rw (fails (anyDue e last) h)
-      none h (c ∷ t) =
-          by-test (λ (s : Stand Item). s ≡ unfit) (due last c && allowed e c)
-          (λ d. absurd (T-not (anyDue e last) h (any-due e last c d)))
-          (λ d. refl)
-  name-stands (c ∷ t) =
-      by-test (Names (c ∷ t)) (due last c && allowed e c)
-      (λ h. go h (lettered e c t) (letter-stands e c t))
-      (λ h u. rw (fails (due last c && allowed e c) h))
+      none : T (not (anyDue o)) → (u : List ℕ) → named e o (behindDot dot u) ≡ unfit
+      none h [] = rw (fails (anyDue o) h)
+      none h (c ∷ t) = rw (none-due e o h c (markOf t) (digitsOf (afterMark t)))
+  name-stands (c ∷ t) = go (lettered e o (pieces c t)) (letter-stands e o c t)
     where
-      go : T (due last c && allowed e c) → (s : Stand Item) → Letters e c t s → Names (c ∷ t) s
-      go d (whole it rest) h =
-          subst (λ (x : Item). Names (c ∷ t) (whole x rest)) (sym (h .1))
-          (record { letter = d; kind = h .3 }, ap (λ (l : List ℕ). c ∷ l) (h .2), h .4)
-      go d short h = (h .0, itemOf c (h .1), record { letter = d; kind = h .3 }, ap (λ (l : List ℕ). c ∷ l) (h .2))
-      go d unfit h = λ u. rw (holds (due last c && allowed e c) d, h u)
+      go : (s : Stand Item) → Letters e o c t s → Names (c ∷ t) s
+      go (whole it rest) h =
+          subst (λ (x : Item). Names (c ∷ t) (whole x rest)) (sym (h .1)) (h .3, ap (λ (l : List ℕ). c ∷ l) (h .2), h .4)
+      go short h = (h .0, itemOf e o c (h .1), h .3, ap (λ (l : List ℕ). c ∷ l) (h .2))
+      go unfit h = h
 
 -- ---- from the dot on
 
@@ -166,55 +149,66 @@ dot-further : (b : ℕ) (t u : List ℕ) (x : Bool) → cond x (t ++ u) (b ∷ (
 dot-further b t u true = refl
 dot-further b t u false = refl
 
-module _ (e : ℕ) (dots : Dots) (last : ℕ) where
+dot-of : (x : Bool) (s : List ℕ) → dotOf (behindDot x s) ≡ x
+dot-of x [] = refl
+dot-of x (c ∷ s) = refl
+
+module _ (e : Edition) (dots : Dots) (o : Order) where
   -- an item that may stand there, with this dot or none
   pub record Fit (dot : Bool) (it : Item) : Type 0 where
     pub dotted : T (dotFits e dots dot)
-    pub ready : Due e last it
+    pub ready : T (due e o it)
 
   abbrev pub Stands : List ℕ → Stand Item → Type 0
   Stands t (whole it rest) = Fit (starts 46 t) it × (t ≡ spellItem (starts 46 t) it ++ rest) × T (apart rest)
   Stands t short = (u : List ℕ) × (dot : Bool) × (it : Item) × Fit dot it × (t ++ u ≡ spellItem dot it)
-  Stands t unfit = (u : List ℕ) → stand e dots last (t ++ u) ≡ unfit
+  Stands t unfit = (u : List ℕ) → stand e dots o (seen (t ++ u)) ≡ unfit
 
-  pub stands : (b : ℕ) (t : List ℕ) → Stands (b ∷ t) (stand e dots last (b ∷ t))
-  unfolding stand
-  stands b t =
-      by-test (Stands (b ∷ t)) (dotFits e dots (eqb b 46))
-      (λ h. go (eqb b 46) refl h (named e last (without 46 (b ∷ t))) (name-stands e last (without 46 (b ∷ t))))
-      (λ h u. rw (fails (dotFits e dots (eqb b 46)) h))
+  pub stands : (b : ℕ) (t : List ℕ) → Stands (b ∷ t) (stand e dots o (seen (b ∷ t)))
+  unfolding stand seen
+  stands b t = go (eqb b 46) refl
     where
-      go : (x : Bool) → eqb b 46 ≡ x → T (dotFits e dots (eqb b 46)) → (s : Stand Item) → Names e last (cond x t (b ∷ t)) s → Stands (b ∷ t) s
-      go x q d (whole it rest) h = (
-        record { dotted = d; ready = h .0 },
+      then : (x : Bool) → eqb b 46 ≡ x → T (dotFits e dots x) → (s : Stand Item) → Names e o x (cond x t (b ∷ t)) s → Stands (b ∷ t) s
+      then x q d (whole it rest) h = (
+        rw q (record { dotted = d; ready = h .0 }),
         rw q (dot-split b t x q ∙ ap (λ (l : List ℕ). spellDot x ++ l) (h .1) ∙ sym (append-assoc (spellDot x) (it .letter ∷ spellKind (it .kind)) rest)),
         h .2,
       )
-      go x q d short h = (
+      then x q d short h = (
         h .0,
         x,
         h .1,
-        record { dotted = rw q at d; ready = h .2 },
+        record { dotted = d; ready = h .2 },
         ap (λ (l : List ℕ). l ++ h .0) (dot-split b t x q) ∙ append-assoc (spellDot x) (cond x t (b ∷ t)) (h .0) ∙ ap (λ (l : List ℕ). spellDot x ++ l) (h .3),
       )
-      go x q d unfit h = λ u. rw (holds (dotFits e dots (eqb b 46)) d, q, dot-further b t u x) (h u)
+      then x q d unfit h = λ u. rw (q, dot-of x (cond x (t ++ u) (b ∷ (t ++ u))), holds (dotFits e dots x) d, dot-further b t u x) (h u)
 
-  pub stand-reads : (dot : Bool) (it : Item) (rest : List ℕ) → Fit dot it → T (apart rest) → stand e dots last (spellItem dot it ++ rest) ≡ whole it rest
-  unfolding stand
+      go : (x : Bool) → eqb b 46 ≡ x → Stands (b ∷ t) (cond (dotFits e dots (dotOf (behindDot (eqb b 46) (cond (eqb b 46) t (b ∷ t))))) (named e o (behindDot (eqb b 46) (cond (eqb b 46) t (b ∷ t)))) unfit)
+      go x q = rw (q, dot-of x (cond x t (b ∷ t)))
+          (by-test (Stands (b ∷ t)) (dotFits e dots x)
+          (λ h. then x q h (named e o (behindDot x (cond x t (b ∷ t)))) (name-stands e o x (cond x t (b ∷ t))))
+          (λ h u. rw (q, dot-of x (cond x (t ++ u) (b ∷ (t ++ u))), fails (dotFits e dots x) h)))
+
+  pub stand-reads : (dot : Bool) (it : Item) (rest : List ℕ) → Fit dot it → T (apart rest) → stand e dots o (seen (spellItem dot it ++ rest)) ≡ whole it rest
+  unfolding stand seen
   stand-reads true it rest f stops =
-      rw (holds (dotFits e dots true) (f .dotted), holds (due last (it .letter) && allowed e (it .letter)) (f .ready .letter))
-      (letter-reads e (it .letter) (it .kind) rest (f .ready .kind) stops)
+      rw (holds (dotFits e dots true) (f .dotted)) (letter-reads e o (it .letter) (it .kind) rest (f .ready) stops)
   stand-reads false it rest f stops =
-      rw (
-        fails (eqb (it .letter) 46) (due-letter (f .ready) (λ c. not (eqb c 46)) tt),
-        holds (dotFits e dots false) (f .dotted),
-        holds (due last (it .letter) && allowed e (it .letter)) (f .ready .letter),
-      )
-      (letter-reads e (it .letter) (it .kind) rest (f .ready .kind) stops)
+      rw (fails (eqb (it .letter) 46) (letter-is e o it (f .ready) (λ c. not (eqb c 46)) tt), holds (dotFits e dots false) (f .dotted))
+      (letter-reads e o (it .letter) (it .kind) rest (f .ready) stops)
+
+  -- what stands whole may come
+  pub whole-due : (t : List ℕ) {it : Item} {rest : List ℕ} → stand e dots o (seen t) ≡ whole it rest → T (due e o it)
+  unfolding stand seen
+  whole-due [] {it} {rest} =
+      by-test (λ (s : Stand Item). s ≡ whole it rest → T (due e o it)) (dotFits e dots false)
+      (λ h. by-test (λ (s : Stand Item). s ≡ whole it rest → T (due e o it)) (anyDue o) (λ k q. let z : _≡_ {A = ℕ} 0 1 = cc in absurd (omega arith)) (λ k q. let z : _≡_ {A = ℕ} 0 1 = cc in absurd (omega arith)))
+      (λ h q. let z : _≡_ {A = ℕ} 0 1 = cc in absurd (omega arith))
+  whole-due (b ∷ t) = λ q. subst (Stands (b ∷ t)) q (stands b t) .0 .ready
 
 -- ---- the N item
 
-module _ (e : ℕ) where
+module _ (e : Edition) where
   abbrev pub Numbers : List ℕ → Stand ℕ → Type 0
   Numbers t (whole seq rest) = T (digitIn 3 (sequenceMost e) seq) × (t ≡ 78 ∷ digit seq ∷ rest) × T (apart rest)
   Numbers t short = (u : List ℕ) × (seq : ℕ) × T (digitIn 3 (sequenceMost e) seq) × (t ++ u ≡ 78 ∷ digit seq ∷ [])

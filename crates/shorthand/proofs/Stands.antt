@@ -1,65 +1,78 @@
 -- How items stand, read at places of the text.
-use Prim.Native.Nat.{ℕ, zero, suc, _+_, _≤_, _<_, suc-le-suc}
+use Prim.Native.Nat.{ℕ, _+_, _≤_, _<_}
 use mathlib.Core.Path.{_≡_, refl}
 use mathlib.Core.Bool.{Bool, true, false, _&&_, _||_, cond, false≢true}
 use mathlib.Core.List.{List, [], _∷_}
 use native.Mathlib.Nat.{zero-add}
 use native.Mathlib.Omega.{arith}
-use lib.ListN.{length, drop}
-use lib.Dec.{T, eqb, leb, ltb→lt}
-use lib.Seq.{drop-nil}
-use borrow.Author.Tests.{ne-eqb, le-leb, lt-leb, leb-true}
-use Rattle.shorthand.specs.declared.Item.{Item}
+use lib.ListN.{length, getD, drop, drop-of-length-le}
+use lib.Dec.{eqb, leb}
+use borrow.Author.Tests.{le-leb, lt-leb, leb-true}
+use Rattle.shorthand.specs.declared.Edition.{Edition}
+use Rattle.shorthand.specs.declared.Edition.the-variants.{Iso2539}
+use Rattle.shorthand.specs.declared.Order.{Order}
 use Rattle.shorthand.specs.declared.Marked.{Marked}
 use Rattle.shorthand.specs.declared.Run.{Run}
 use Rattle.shorthand.specs.declared.Digits.the-variants.{Empty}
 use Rattle.shorthand.specs.declared.Dots.{Dots}
-use Rattle.shorthand.specs.declared.Found.{Found}
-use Rattle.shorthand.specs.declared.Making.{Making}
 use Rattle.shorthand.specs.declared.Sequence.{Sequence}
-use Rattle.shorthand.specs.Edition.{form, later, sequenceMost, rank, due, allowed, anyDue}
-use Rattle.shorthand.specs.Lawful.{digitIn, classOf}
-use Rattle.shorthand.specs.Stand.{starts, without, digitsOf, afterDigits, markOf, afterMark, Made, made, more, wrong, oneDigit, kindMade, Stand, whole, short, unfit, closed, lettered, named, dotFits, stand, standN}
-use Rattle.shorthand.specs.Places.{digitsIn, addedAll, Begins, making, closing, Onward, Opens}
-use Rattle.shorthand.proofs.Tests.{first, by-test}
+use Rattle.shorthand.specs.Edition.{later, sequenceMost}
+use Rattle.shorthand.specs.Lawful.{digitIn}
+use Rattle.shorthand.specs.Spell.{starts}
+use Rattle.shorthand.specs.Stand.{without, digitsOf, afterDigits, markOf, afterMark, Pieces, made, wrong, oneDigit, Stand, whole, short, unfit, closed, dotFits, nothing, item, seen, stand, standN}
+use Rattle.shorthand.specs.Places.{digitsIn, addedAll, Begins, Opens}
 use Rattle.shorthand.proofs.Runs.{from-place}
 use Rattle.shorthand.proofs.Makes.{one-enough, kind-enough}
 
--- ---- the dot
+-- ---- a word item
 
-pub within-start : (c : ℕ) (t : List ℕ) (at : ℕ) → starts c (drop at t) ≡ true → at < length t
-within-start c [] at h = absurd (false≢true (rw drop-nil at h))
-within-start c (b ∷ t) zero h = omega arith
-within-start c (b ∷ t) (suc at) h = suc-le-suc (within-start c t at h)
+-- behind its dot, or where it has none, an item goes on at the place front
+pub record Fronts (t : List ℕ) (at front : ℕ) : Type 0 where
+  pub dot : eqb (getD t at 0) 46 ≡ starts 46 (drop at t)
+  pub there : without 46 (drop at t) ≡ drop front t
+  pub behind : at ≤ front
+  pub within : front ≤ length t
 
-pub behind-dot : (t : List ℕ) (at : ℕ) → starts 46 (drop at t) ≡ true → without 46 (drop at t) ≡ drop (at + 1) t
-behind-dot t at h =
-    let e = from-place t at (within-start 46 t at h) in
-    rw (e, rw e at h)
+module _ (t : List ℕ) (at : ℕ) (h : at < length t) where
+  pub front-dotted : eqb (getD t at 0) 46 ≡ true → Fronts t at (at + 1)
+  front-dotted d = record { dot = rw (from-place t at h); there = rw (from-place t at h, d); behind = omega arith; within = omega arith }
 
-pub no-dot : (t : List ℕ) → starts 46 t ≡ false → without 46 t ≡ t
-no-dot [] h = refl
-no-dot (b ∷ t) h = rw h
+  pub front-plain : eqb (getD t at 0) 46 ≡ false → Fronts t at at
+  front-plain d = record { dot = rw (from-place t at h); there = rw (from-place t at h, d); behind = omega arith; within = omega arith }
 
-pub onward-from : (t : List ℕ) (a b : ℕ) (f : Found) → a ≤ b → Onward t b f → Onward t a f
-onward-from t a b (Found.Whole it n) h w = omega arith
-onward-from t a b Found.Short h w = tt
-onward-from t a b Found.Unfit h w = tt
+module _ {t : List ℕ} {at front : ℕ} (f : Fronts t at front) where
+  pub sees-nothing : length t ≤ front → seen (drop at t) ≡ nothing (starts 46 (drop at t))
+  unfolding seen
+  sees-nothing h = rw (f .there, drop-of-length-le t h)
 
--- ---- the mark and the digits
+  -- as the mark and the digits behind the letter are read
+  pub sees-item : front < length t → (m : Marked) (r : Run)
+      → m .mark ≡ markOf (drop (front + 1) t) → Begins t (front + 1) (afterMark (drop (front + 1) t)) (m .after)
+      → r .digits ≡ addedAll Empty (digitsOf (drop (m .after) t)) → Begins t (m .after) (afterDigits (drop (m .after) t)) (r .after)
+      → (e : Edition) (dots : Dots) (o : Order)
+      → stand e dots o (item (starts 46 (drop at t)) (record { letter = getD t front 0; mark = m .mark; digits = digitsIn (r .digits); rest = drop (r .after) t }))
+      ≡ stand e dots o (seen (drop at t))
+  unfolding seen stand
+  sees-item h m r p b q d e dots o = rw (f .there, from-place t front h, p, q, d .there, b .there, kind-enough)
 
-pub letter-reads : (e c : ℕ) (t : List ℕ) (at : ℕ) (m : Marked) (r : Run) (x : Making)
-    → m .mark ≡ markOf (drop at t) → Begins t at (afterMark (drop at t)) (m .after)
-    → r .digits ≡ addedAll Empty (digitsOf (drop (m .after) t)) → Begins t (m .after) (afterDigits (drop (m .after) t)) (r .after)
-    → making e (m .mark) x ≡ kindMade e (classOf c) (m .mark) (digitsIn (r .digits))
-    → lettered e c (drop at t) ≡ closing e c (m .mark) x (drop (r .after) t)
-letter-reads e c t at m r x p b q d h = rw (h, p, q, d .there, b .there, kind-enough)
+pub stand-undotted : (e : Edition) (dots : Dots) (o : Order) (named dot : Bool) (p : Pieces) → dotFits e dots dot ≡ false → stand e dots o (cond named (item dot p) (nothing dot)) ≡ unfit
+unfolding stand
+stand-undotted e dots o true dot p h = rw h
+stand-undotted e dots o false dot p h = rw h
 
 -- ---- N
 
+pub starts-first : (c : ℕ) (t : List ℕ) → 0 < length t → starts c t ≡ eqb (getD t 0 0) c
+starts-first c [] h = absurd (omega arith)
+starts-first c (b ∷ t) h = refl
+
+pub starts-nothing : (c : ℕ) (t : List ℕ) → length t ≡ 0 → starts c t ≡ false
+starts-nothing c [] h = refl
+starts-nothing c (b ∷ t) h = absurd (omega arith)
+
 pub sequence-reads : (t : List ℕ) (r : Run) → starts 78 t ≡ true
     → r .digits ≡ addedAll Empty (digitsOf (drop 1 t)) → Begins t 1 (afterDigits (drop 1 t)) (r .after)
-    → standN form t ≡ closed (λ d. d) (oneDigit 3 9 (λ d. d) (digitsIn (r .digits))) (drop (r .after) t)
+    → standN Iso2539 t ≡ closed (λ d. d) (oneDigit 3 9 (λ d. d) (digitsIn (r .digits))) (drop (r .after) t)
 unfolding standN
 sequence-reads [] r n q d = absurd (false≢true n)
 sequence-reads (c ∷ t) r n q d = rw (n, q, d .there, one-enough)
@@ -94,7 +107,7 @@ digits-taken late [] (b ∷ rest) = refl
 digits-taken late (d ∷ []) rest = digit-taken late d rest
 digits-taken late (d ∷ (x ∷ ds)) rest = refl
 
-pub sequence-taken : (e : ℕ) (t : List ℕ) → standN e t ≡ taking (later e) (standN form t)
+pub sequence-taken : (e : Edition) (t : List ℕ) → standN e t ≡ taking (later e) (standN Iso2539 t)
 unfolding standN
 sequence-taken e [] = refl
 sequence-taken e (c ∷ t) = go (eqb c 78)
@@ -105,50 +118,20 @@ sequence-taken e (c ∷ t) = go (eqb c 78)
     go true = digits-taken (later e) (digitsOf t) (afterDigits t)
     go false = refl
 
-module _ (e : ℕ) (t : List ℕ) where
-  pub opens-short : standN form t ≡ short → Opens e t (Sequence.Refused 2 (length t))
+module _ (e : Edition) (t : List ℕ) where
+  pub opens-short : standN Iso2539 t ≡ short → Opens e t (Sequence.Refused 2 (length t))
   opens-short s = λ k. rw (sequence-taken e t, s, zero-add)
 
-  pub opens-unfit : standN form t ≡ unfit → Opens e t (Sequence.Refused 2 0)
+  pub opens-unfit : standN Iso2539 t ≡ unfit → Opens e t (Sequence.Refused 2 0)
   opens-unfit s = λ k. rw (sequence-taken e t, s)
 
-  pub opens-beyond : {d : ℕ} {rest : List ℕ} → standN form t ≡ whole d rest → (e ≡ 2539 → ⊥) → 3 < d → Opens e t (Sequence.Refused 3 0)
-  opens-beyond {d} s l h = λ k. rw (sequence-taken e t, s, ne-eqb e 2539 l, lt-leb d 3 h)
+  pub opens-beyond : {d : ℕ} {rest : List ℕ} → standN Iso2539 t ≡ whole d rest → later e ≡ false → 3 < d → Opens e t (Sequence.Refused 3 0)
+  opens-beyond {d} s l h = λ k. rw (sequence-taken e t, s, l, lt-leb d 3 h)
 
-  pub opens-whole : {d : ℕ} (n : ℕ) → standN form t ≡ whole d (drop n t) → later e || leb d 3 ≡ true → n ≤ length t → Opens e t (Sequence.Whole d n)
+  pub opens-whole : {d : ℕ} (n : ℕ) → standN Iso2539 t ≡ whole d (drop n t) → later e || leb d 3 ≡ true → n ≤ length t → Opens e t (Sequence.Whole d n)
   opens-whole n s h w = (rw (sequence-taken e t, s, h), w)
 
-pub opens-otherwise : (e : ℕ) (t : List ℕ) → starts 78 t ≡ false → Opens e t (Sequence.Refused 2 0)
+pub opens-otherwise : (e : Edition) (t : List ℕ) → starts 78 t ≡ false → Opens e t (Sequence.Refused 2 0)
 unfolding standN
 opens-otherwise e [] h = λ k. refl
 opens-otherwise e (c ∷ t) h = λ k. rw h
-
--- ---- a whole item is due
-
-abbrev Ranked : ℕ → Stand Item → Type 0
-Ranked last (whole it rest) = last < rank (it .letter)
-Ranked last short = Unit {0}
-Ranked last unfit = Unit {0}
-
-closed-ranked : {A : Type 0} (last : ℕ) (f : A → Item) → ((a : A) → last < rank (f a .letter)) → (m : Made A) (rest : List ℕ) → Ranked last (closed f m rest)
-closed-ranked last f h (made a) rest = h a
-closed-ranked last f h more [] = tt
-closed-ranked last f h more (b ∷ t) = tt
-closed-ranked last f h wrong rest = tt
-
-named-ranked : (e last : ℕ) (t : List ℕ) → Ranked last (named e last t)
-unfolding due
-named-ranked e last [] = by-test (Ranked last) (anyDue e last) (λ h. tt) (λ h. tt)
-named-ranked e last (c ∷ t) = by-test (Ranked last) (due last c && allowed e c) item (λ h. tt)
-  where
-    item : T (due last c && allowed e c) → Ranked last (lettered e c t)
-    item h =
-        closed-ranked last (λ k. record { letter = c; kind = k }) (λ k. ltb→lt last (rank c) (first (due last c) (allowed e c) h))
-        (kindMade e (classOf c) (markOf t) (digitsOf (afterMark t))) (afterDigits (afterMark t))
-
-stand-ranked : (e : ℕ) (dots : Dots) (last : ℕ) (t : List ℕ) → Ranked last (stand e dots last t)
-unfolding stand
-stand-ranked e dots last t = by-test (Ranked last) (dotFits e dots (starts 46 t)) (λ h. named-ranked e last (without 46 t)) (λ h. tt)
-
-pub whole-ranked : (e : ℕ) (dots : Dots) (last : ℕ) (t : List ℕ) {it : Item} {rest : List ℕ} → stand e dots last t ≡ whole it rest → last < rank (it .letter)
-whole-ranked e dots last t h = rw h at (stand-ranked e dots last t)

@@ -58,3 +58,11 @@ beq→eq false false h = refl
 pub by-test : {A : Type 0} (P : A → Type 0) (b : Bool) {x y : A} → (T b → P x) → (T (not b) → P y) → P (cond b x y)
 by-test P true f g = f tt
 by-test P false f g = g tt
+
+pub nor : (a b : Bool) → T (not a) → T (not b) → T (not (a || b))
+nor true b p q = p
+nor false b p q = q
+
+pub neither : (a b : Bool) → T (not (a || b)) → T (not a) × T (not b)
+neither true b h = absurd h
+neither false b h = (tt, h)

@@ -3,6 +3,7 @@ pub mod Layout
 pub mod Spell
 pub mod Edition
 pub mod Lawful
+pub mod Order
 pub mod Stand
 pub mod Parse
 pub mod Facts

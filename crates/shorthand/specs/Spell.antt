@@ -1,7 +1,8 @@
 -- The one text of a Format (document 01, "The shorthand"): N item, word items, "*".
 use Prim.Native.Nat.{ℕ, _+_}
-use mathlib.Core.Bool.{Bool, true, false}
+use mathlib.Core.Bool.{Bool, true, false, _&&_}
 use mathlib.Core.List.{List, [], _∷_, _++_}
+use lib.Dec.{eqb, leb}
 use Rattle.shorthand.specs.declared.Mark.{Mark}
 use Rattle.shorthand.specs.declared.Mark.the-variants.{Unmarked, Plus, Delta}
 use Rattle.shorthand.specs.declared.Missing.{Missing}
@@ -15,6 +16,14 @@ use Rattle.shorthand.specs.Layout.{itemsOf}
 
 abbrev pub digit : ℕ → ℕ
 digit d = 48 + d
+
+abbrev pub isDigit : ℕ → Bool
+isDigit b = leb 48 b && leb b 57
+
+-- the byte c stands at the front of a text
+abbrev pub starts : ℕ → List ℕ → Bool
+starts c [] = false
+starts c (b ∷ t) = eqb b c
 
 -- "+" or "D", or nothing
 abbrev pub spellMark : Mark → List ℕ

@@ -6,20 +6,22 @@ ghost use mathlib.Core.List.{[]};
 ghost use lib.ListN.{length, drop};
 ghost use Rattle.rows.specs.Answer.{refused};
 ghost use Rattle.shorthand.specs.Layout.{formatOf};
-ghost use Rattle.shorthand.specs.Edition.{form};
 ghost use Rattle.shorthand.specs.Stand.{stand};
-ghost use Rattle.shorthand.specs.Parse.{beyond, afterStar, itemsFrom};
-ghost use Rattle.shorthand.specs.Places.{Says, pushed};
+ghost use Rattle.shorthand.specs.Parse.{beyond, opening, itemsFrom};
+ghost use Rattle.shorthand.specs.Places.{seenIn, ending, Says, pushed};
 use crate::Dots;
-use crate::FORM;
+use crate::Edition;
 use crate::Format;
 use crate::Found;
 use crate::Item;
 use crate::Kind;
+use crate::Order;
 use crate::Parsed;
-use crate::items::item_at;
-use crate::items::rank_of;
-use crate::pieces::has_byte;
+use crate::Seen;
+use crate::items::judge_item;
+use crate::orders::START;
+use crate::orders::order_after;
+use crate::pieces::see_item;
 use rows::Checked;
 use rows::Refusal;
 
@@ -58,19 +60,19 @@ pub(crate) fn refuse(number: u32, place: usize) -> Parsed
     }
 }
 
-// 2 where the later edition can't mend the item either, else 3.
-fn judge_item(dots: Dots, last: u8, text: &[u8], at: usize) -> u32
-    ensures { λ r. ⌜ r ≡ beyond (stand form dots last (drop at (now (text .entry)))) ⌝ }
+// 2 where 2539, which holds whatever is in form at all, can't mend the item either, else 3.
+fn fault_number(dots: Dots, order: Order, seen: Seen, text: &[u8]) -> u32
+    ensures { λ r. ⌜ r ≡ beyond (stand Edition.Iso2539 dots order (seenIn (now (text .entry)) seen)) ⌝ }
 {
-    match item_at(FORM, dots, last, text, at) {
-        Found::Whole(_, _) => 3,
+    match judge_item(Edition::Iso2539, dots, order, seen, text) {
+        Found::Whole(_) => 3,
         Found::Short => 3,
         Found::Unfit => 2,
     }
 }
 
 fn after_star(format: Format, text: &[u8], at: usize) -> Parsed
-    ensures { λ r. ⌜ Says r (afterStar format at (drop at (now (text .entry)))) ⌝ }
+    ensures { λ r. ⌜ Says r (ending format at (drop at (now (text .entry)))) ⌝ }
 {
     if at < text.len() {
         return refuse(2, at);
@@ -81,30 +83,34 @@ fn after_star(format: Format, text: &[u8], at: usize) -> Parsed
     }
 }
 
-pub(crate) fn read_items(edition: u32, sequence: u8, text: &[u8], start: usize) -> Parsed
-    ensures { λ r. ⌜ Says r (itemsFrom (length (now (text .entry))) edition sequence Dots.Open 0 [] start (drop start (now (text .entry)))) ⌝ }
+pub(crate) fn read_items(edition: Edition, sequence: u8, text: &[u8], start: usize) -> Parsed
+    ensures { λ r. ⌜ Says r (itemsFrom (length (now (text .entry))) edition (opening sequence start) (drop start (now (text .entry)))) ⌝ }
 {
     let mut format = start_format(sequence);
     let mut dots = Dots::Open;
-    let mut last: u8 = 0;
+    let mut order = START;
     let mut at = start;
     while at < text.len() {
         if text[at] == b'*' {
             return after_star(format, text, at + 1);
         }
-        match item_at(edition, dots, last, text, at) {
-            Found::Whole(item, next) => {
-                let dot = has_byte(text, at, b'.');
-                format = push_item(format, dot, item);
-                dots = if dot { Dots::Dotted } else { Dots::Plainly };
-                last = rank_of(item.letter);
-                at = next;
+        let seen = see_item(text, at);
+        match judge_item(edition, dots, order, seen, text) {
+            Found::Whole(item) => {
+                format = push_item(format, seen.dot, item);
+                dots = if seen.dot {
+                    Dots::Dotted
+                } else {
+                    Dots::Plainly
+                };
+                order = order_after(order, item);
+                at = seen.after;
             }
             Found::Short => {
                 return refuse(2, text.len());
             }
             Found::Unfit => {
-                return refuse(judge_item(dots, last, text, at), at);
+                return refuse(fault_number(dots, order, seen, text), at);
             }
         }
     }

@@ -1,20 +1,32 @@
-// What an item's mark and digits make.
+// What an item's mark and digits make, behind the items that have stood.
 ghost use mathlib.Core.Path.{_≡_};
 ghost use Prim.Native.Nat.{ℕ};
-ghost use Rattle.shorthand.specs.Lawful.{classOf};
-ghost use Rattle.shorthand.specs.Stand.{oneDigit, unmarked, twoDigits, threeDigits, dimensioned, kindMade};
-ghost use Rattle.shorthand.specs.Places.{digitsIn, making, singly};
+ghost use mathlib.Core.Bool.{_&&_, cond};
+ghost use mathlib.Core.List.{List};
+ghost use Rattle.shorthand.specs.Edition.{allowed};
+ghost use Rattle.shorthand.specs.Order.{dueAsDimension};
+ghost use Rattle.shorthand.specs.Stand.{wrong, oneDigit, unmarked, twoDigits, threeDigits, dimensioned, kindMade};
+ghost use Rattle.shorthand.specs.Places.{digitsIn, making, singly, piecesIn};
 use crate::Digits;
-use crate::FORM;
+use crate::Edition;
 use crate::Making;
 use crate::Mark;
 use crate::Missing;
+use crate::Order;
+use crate::Seen;
+use crate::is_later;
+use crate::orders::due_as_dimension;
+use crate::orders::due_as_feed;
+use crate::orders::rank_of;
 use crate::pieces::is_within;
 
-// An item with one digit, a speed or a plain number: only a dimension has a mark.
-fn make_single(speed: bool, low: u8, high: u8, mark: Mark, digits: Digits) -> Making
-    ensures { λ r. ⌜ ((e : ℕ) → making e mark r ≡ unmarked mark (oneDigit low high (singly speed) (digitsIn digits))) ⌝ }
+// An item with one digit, a speed or a plain number, where it is due: only a dimension has a mark.
+fn make_single(due: bool, speed: bool, low: u8, high: u8, mark: Mark, digits: Digits) -> Making
+    ensures { λ r. ⌜ ((e : Edition) → making e mark r ≡ cond due (unmarked mark (oneDigit low high (singly speed) (digitsIn digits))) wrong) ⌝ }
 {
+    if !due {
+        return Making::Wrong;
+    }
     match mark {
         Mark::Unmarked => match digits {
             Digits::Empty => Making::More,
@@ -35,11 +47,11 @@ fn make_single(speed: bool, low: u8, high: u8, mark: Mark, digits: Digits) -> Ma
 }
 
 // `00` makes no item, but in 2539 a third digit may.
-fn two_digits(edition: u32, a: u8, b: u8) -> Making
+fn two_digits(edition: Edition, a: u8, b: u8) -> Making
     ensures { λ r. ⌜ ((m : Mark) → making edition m r ≡ twoDigits edition m a b) ⌝ }
 {
     if a == 0 && b == 0 {
-        if edition == FORM {
+        if is_later(edition) {
             return Making::More;
         }
         return Making::Wrong;
@@ -48,10 +60,10 @@ fn two_digits(edition: u32, a: u8, b: u8) -> Making
 }
 
 // Both outer digits zero, or neither, is refused, because `040` could mean either end.
-fn three_digits(edition: u32, x: u8, y: u8, z: u8) -> Making
+fn three_digits(edition: Edition, x: u8, y: u8, z: u8) -> Making
     ensures { λ r. ⌜ ((m : Mark) → making edition m r ≡ threeDigits edition m x y z) ⌝ }
 {
-    if edition != FORM {
+    if !is_later(edition) {
         return Making::Wrong;
     }
     if x == 0 {
@@ -66,9 +78,12 @@ fn three_digits(edition: u32, x: u8, y: u8, z: u8) -> Making
     Making::Wrong
 }
 
-fn make_dimension(edition: u32, digits: Digits) -> Making
-    ensures { λ r. ⌜ ((m : Mark) → making edition m r ≡ dimensioned edition m (digitsIn digits)) ⌝ }
+fn make_dimension(edition: Edition, order: Order, letter: u8, digits: Digits) -> Making
+    ensures { λ r. ⌜ ((m : Mark) → making edition m r ≡ cond (allowed edition letter && dueAsDimension order letter) (dimensioned edition m (digitsIn digits)) wrong) ⌝ }
 {
+    if !due_as_dimension(edition, order, letter) {
+        return Making::Wrong;
+    }
     match digits {
         Digits::Empty => Making::More,
         Digits::One(_) => Making::More,
@@ -78,13 +93,25 @@ fn make_dimension(edition: u32, digits: Digits) -> Making
     }
 }
 
-pub(crate) fn make_kind(edition: u32, letter: u8, mark: Mark, digits: Digits) -> Making
-    ensures { λ r. ⌜ making edition mark r ≡ kindMade edition (classOf letter) mark (digitsIn digits) ⌝ }
+pub(crate) fn make_kind(edition: Edition, order: Order, seen: Seen) -> Making
+    ensures { λ r. ⌜ ((t : List ℕ) → making edition (seen .mark) r ≡ kindMade edition order (piecesIn t seen)) ⌝ }
 {
+    let letter = seen.letter;
+    let mark = seen.mark;
+    let digits = seen.digits;
+    let turn = order.last < rank_of(letter);
     match letter {
-        b'G' | b'M' => make_single(false, 2, 2, mark, digits),
-        b'T' => make_single(false, 1, 9, mark, digits),
-        b'F' | b'S' => make_single(true, 3, 5, mark, digits),
-        _ => make_dimension(edition, digits),
+        b'G' | b'M' => make_single(turn, false, 2, 2, mark, digits),
+        b'T' => make_single(turn, false, 1, 9, mark, digits),
+        b'S' => make_single(turn, true, 3, 5, mark, digits),
+        b'D' | b'E' | b'F' => {
+            // A feed where the digits make one or may yet, else a dimension.
+            let feed = make_single(due_as_feed(order, letter), true, 3, 5, mark, digits);
+            match feed {
+                Making::Wrong => make_dimension(edition, order, letter, digits),
+                _ => feed,
+            }
+        }
+        _ => make_dimension(edition, order, letter, digits),
     }
 }

@@ -2,17 +2,25 @@
 ghost use mathlib.Core.Path.{_≡_};
 ghost use Rattle.rows.specs.Answer.{told, void, valueOr};
 ghost use Rattle.shorthand.specs.Layout.{emptyFormat};
+ghost use Rattle.shorthand.specs.Edition.{later};
 ghost use Rattle.shorthand.specs.Parse.{parsed};
 
 mod formats;
 mod items;
 mod kinds;
+mod orders;
 mod pieces;
 
 use formats::read_items;
 use formats::refuse;
 use items::sequence_at;
 use rows::Checked;
+
+// The editions: ISO 1057, and ISO 2539, which holds whatever is in form at all.
+pub enum Edition {
+    Iso1057,
+    Iso2539,
+}
 
 // A dimension's mark: none, "+" or "D".
 pub enum Mark {
@@ -69,6 +77,15 @@ pub struct Parsed {
     pub format: Format,
 }
 
+// Where the walk over the items stands: the rank reached, whether the last item is a dimension, and whether F, E and D, the first, second and third feed, have stood.
+struct Order {
+    last: u8,
+    fresh: bool,
+    first: bool,
+    second: bool,
+    third: bool,
+}
+
 // The digits that stand together at a place, as far as they can make an item.
 enum Digits {
     Empty,
@@ -99,9 +116,19 @@ enum Making {
     Wrong,
 }
 
-// How a word item stands at a place: whole, with the place after it; short, so that further bytes could mend it; past mending.
+// What is read of a word item at a place: its dot; its letter, unless the text ends there; its mark and digits; and the place after them.
+struct Seen {
+    dot: bool,
+    named: bool,
+    letter: u8,
+    mark: Mark,
+    digits: Digits,
+    after: usize,
+}
+
+// How a word item stands: whole; short, so that further bytes could mend it; past mending.
 enum Found {
-    Whole(Item, usize),
+    Whole(Item),
     Short,
     Unfit,
 }
@@ -112,19 +139,29 @@ enum Sequence {
     Refused(u32, usize),
 }
 
-// The later edition: what it can't mend is out of form.
-const FORM: u32 = 2539;
+fn is_later(edition: Edition) -> bool
+    ensures { λ r. ⌜ r ≡ later edition ⌝ }
+{
+    match edition {
+        Edition::Iso1057 => false,
+        Edition::Iso2539 => true,
+    }
+}
 
 // The Format of a shorthand under an edition.
 pub fn parse(edition: u32, text: &[u8]) -> Parsed
     ensures outcome { λ r. ⌜ told (r .outcome) ≡ void (parsed edition (now (text .entry))) ⌝ }
     ensures format { λ r. ⌜ r .format ≡ valueOr emptyFormat (parsed edition (now (text .entry))) ⌝ }
 {
-    match edition {
-        1057 | 2539 => match sequence_at(edition, text) {
-            Sequence::Whole(sequence, next) => read_items(edition, sequence, text, next),
-            Sequence::Refused(number, place) => refuse(number, place),
-        },
-        _ => refuse(1, 0),
+    let known = match edition {
+        1057 => Edition::Iso1057,
+        2539 => Edition::Iso2539,
+        _ => {
+            return refuse(1, 0);
+        }
+    };
+    match sequence_at(known, text) {
+        Sequence::Whole(sequence, next) => read_items(known, sequence, text, next),
+        Sequence::Refused(number, place) => refuse(number, place),
     }
 }

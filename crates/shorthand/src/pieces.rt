@@ -1,23 +1,15 @@
-// The pieces of a text: a byte, a mark, and the digits that stand together.
+// The pieces of a text: a mark, the digits that stand together, and all that an item has.
 ghost use mathlib.Core.Path.{_≡_};
-ghost use lib.ListN.{drop};
+ghost use Prim.Native.Nat.{_<_};
+ghost use lib.ListN.{length, drop};
 ghost use Rattle.shorthand.specs.Lawful.{digitIn};
-ghost use Rattle.shorthand.specs.Stand.{starts, digitsOf, afterDigits, markOf, afterMark};
-ghost use Rattle.shorthand.specs.Places.{added, addedAll, Begins};
+ghost use Rattle.shorthand.specs.Stand.{digitsOf, afterDigits, markOf, afterMark};
+ghost use Rattle.shorthand.specs.Places.{added, addedAll, Begins, Sees};
 use crate::Digits;
 use crate::Mark;
 use crate::Marked;
 use crate::Run;
-
-pub(crate) fn has_byte(text: &[u8], at: usize, b: u8) -> bool
-    ensures { λ r. ⌜ r ≡ starts b (drop at (now (text .entry))) ⌝ }
-{
-    if at < text.len() {
-        text[at] == b
-    } else {
-        false
-    }
-}
+use crate::Seen;
 
 pub(crate) fn is_within(low: u8, high: u8, b: u8) -> bool
     ensures { λ r. ⌜ r ≡ digitIn low high b ⌝ }
@@ -54,7 +46,7 @@ pub(crate) fn read_digits(text: &[u8], at: usize) -> Run
     Run { digits, after: i }
 }
 
-pub(crate) fn read_mark(text: &[u8], at: usize) -> Marked
+fn read_mark(text: &[u8], at: usize) -> Marked
     ensures mark { λ r. ⌜ r .mark ≡ markOf (drop at (now (text .entry))) ⌝ }
     ensures after { λ r. ⌜ Begins (now (text .entry)) at (afterMark (drop at (now (text .entry)))) (r .after) ⌝ }
 {
@@ -77,5 +69,37 @@ pub(crate) fn read_mark(text: &[u8], at: usize) -> Marked
             mark: Mark::Unmarked,
             after: at,
         },
+    }
+}
+
+// An item is read once, for whichever edition judges it.
+pub(crate) fn see_item(text: &[u8], at: usize) -> Seen
+    requires { ⌜ at < length (now text) ⌝ }
+    ensures { λ r. ⌜ Sees (now (text .entry)) at r ⌝ }
+{
+    let dot = text[at] == b'.';
+    let front = if dot { at + 1 } else { at };
+    if text.len() <= front {
+        return Seen {
+            dot,
+            named: false,
+            letter: 0,
+            mark: Mark::Unmarked,
+            digits: Digits::Empty,
+            after: front,
+        };
+    }
+    let letter = text[front];
+    let marked = read_mark(text, front + 1);
+    let mark = marked.mark;
+    let run = read_digits(text, marked.after);
+    let digits = run.digits;
+    Seen {
+        dot,
+        named: true,
+        letter,
+        mark,
+        digits,
+        after: run.after,
     }
 }

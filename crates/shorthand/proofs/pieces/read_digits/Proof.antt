@@ -5,7 +5,7 @@ use mathlib.Core.Path.{_≡_, sym, _∙_}
 use lib.ListN.{length, getD}
 use borrow.Author.Tests.{not-true, not-false}
 use borrow.Author.Needs.{needs}
-use Rattle.shorthand.specs.Stand.{isDigit}
+use Rattle.shorthand.specs.Spell.{isDigit}
 use Rattle.shorthand.proofs.Runs.{Running, run-starts, run-goes-on, run-stops, run-runs-out, within-bounds}
 use Rattle.shorthand.proofs.pieces.read_digits.Statement.{statement}
 use Rattle.shorthand.proofs.pieces.read_digits.Tie as tie

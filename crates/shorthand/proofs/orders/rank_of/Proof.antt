@@ -1,15 +1,15 @@
--- `shorthand::items::rank_of` meets its contract: the table is what `rank` gives of A to Z, as antt computes it, and every other byte has rank 0.
+-- `shorthand::orders::rank_of` meets its contract: the table is what `rank` gives of A to Z, as antt computes it, and every other byte has rank 0.
 use Prim.Native.Nat.{_+_, _-_, _≤_}
 use mathlib.Core.Path.{_≡_, sym, _∙_}
 use native.Mathlib.Omega.{arith}
 use borrow.Author.Tests.{not-true, not-false}
 use borrow.Author.Needs.{needs}
-use Rattle.shorthand.specs.Edition.{rank}
+use Rattle.shorthand.specs.Order.{rank}
 use Rattle.shorthand.proofs.Runs.{within-bounds}
 use Rattle.shorthand.proofs.LetterBytes.{rank-outside}
 use Rattle.rows.proofs.Tabulated.{tab-at}
-use Rattle.shorthand.proofs.items.rank_of.Statement.{statement}
-use Rattle.shorthand.proofs.items.rank_of.Tie as tie
+use Rattle.shorthand.proofs.orders.rank_of.Statement.{statement}
+use Rattle.shorthand.proofs.orders.rank_of.Tie as tie
 
 bounds : (c : tie.Else1) → (65 ≤ c .before .before .args .letter) × (c .before .before .args .letter ≤ 90)
 bounds c = within-bounds 65 90 _ (sym (c .before .is-within .ensures) ∙ not-false (c .before .is-within .result) (c .if1 .left))
