@@ -82,6 +82,15 @@ mod tests {
     }
 
     #[test]
+    fn feeds_behind_their_own_axis() {
+        let text = "%\nN001\tX-000250\tE615\t\tF000\tD5153\n";
+        let list = |header| listing(&input(header, text));
+        assert_eq!(list("1057 N3.X+42.E3.Y+42.F3.D4*\n"), "N 001 - X-250 E1500000000 F0 D153000000\nblocks 1\n");
+        // D is a dimension already
+        assert_eq!(list("2539 N3.X+42.E3.D+42.F3.D4*\n"), "refused 2 18\n");
+    }
+
+    #[test]
     fn the_header() {
         for wrong in ["", "1057", "1057 N3*", "1057\n", " N3*\n", "01057 N3*\n", "1058 N3*\n", "1057N3* \n"] {
             assert_eq!(listing(&input(wrong, "")), "refused 1 0\n", "{wrong:?}");

@@ -250,6 +250,19 @@ mod tests {
     }
 
     #[test]
+    fn words_of_e_and_d() {
+        let text = "N3.X42.E3.D+12*";
+        let (e, d) = ((b'E', Value::Speed(1_500_000_000)), (b'D', Value::Dimension(7)));
+        assert_eq!(answer(1057, text, &record(1, &[e, d])), Ok("N001\t\tE615\tD+007\n".into()));
+        assert_eq!(answer(1057, text, &record(1, &[d, e])), Err((16, 2)));
+        // the kind is the item's
+        assert_eq!(answer(1057, text, &record(1, &[(b'E', Value::Dimension(7))])), Err((16, 1)));
+        assert_eq!(answer(1057, text, &record(1, &[e, (b'D', Value::Speed(4_600))])), Err((16, 2)));
+        assert_eq!(answer(1057, text, &record(1, &[(b'E', Value::Speed(1_550_000_000))])), Err((18, 1)));
+        assert_eq!(one_word("N3E42D3*", b'D', Value::Speed(0)), Ok("N001D000\n".into()));
+    }
+
+    #[test]
     fn the_order_of_refusals() {
         let (z, g) = ((b'Z', Value::Plain(1)), (b'G', Value::Plain(100)));
         let mut handed = record(1_000, &[z]);

@@ -432,6 +432,25 @@ mod tests {
     }
 
     #[test]
+    fn words_of_e_and_d() {
+        // speeds by feeds, numbers by dimensions
+        assert_eq!(first_word("N3E3*", "%\nN001E717\n"), Value::Speed(17_000_000_000));
+        assert_eq!(first_word("N3D12*", "%\nN001D717\n"), Value::Dimension(717));
+        let feeds = "N3.X+42.E3.Y+42.F3.D4*";
+        assert_eq!(answer(1057, feeds, "%\nN001\tX+012500\tE615\tY-000001\tF000\tD5153\n"), (0, 1));
+        assert_eq!(answer(1057, feeds, "%\nN001\t\tE615\t\t\tD0000\n"), (0, 1));
+        // no sign, all digits, and a second digit that is not zero
+        assert_eq!(answer(1057, feeds, "%\nN001\t\tE+15\n"), (12, 9));
+        assert_eq!(answer(1057, feeds, "%\nN001\t\tE61\n"), (11, 11));
+        assert_eq!(answer(1057, feeds, "%\nN001\t\tE605\n"), (13, 8));
+        assert_eq!(answer(1057, feeds, "%\nN001\t\t\t\tD615\n"), (10, 10));
+        // in the shorthand's order
+        assert_eq!(answer(2539, "N3X42E3Y42F3D4*", "%\nN001E615F615D5153\n"), (0, 1));
+        assert_eq!(answer(2539, "N3X42E3Y42F3D4*", "%\nN001E615X000000\n"), (10, 10));
+        assert_eq!(answer(2539, "N3X42E3Y42F3D4*", "%\nN001D5153F615\n"), (10, 11));
+    }
+
+    #[test]
     fn one_block_and_its_rows() {
         let format = shorthand::parse(1057, PLAIN.as_bytes()).unwrap();
         let text = "\0%\r\n\0(A\n)/N001\tG01\r(B)\n\x7F:002\n\0";

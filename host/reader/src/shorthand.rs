@@ -2,8 +2,10 @@
 
 use crate::Refusal;
 
-/// The letters of word items in their order.
+/// The letters of word items, in the order that they have where E and D are dimensions.
 pub const ORDER: &[u8; 22] = b"GXYZUVWPQRIJKABCDEFSTM";
+/// The letters of dimensions in their order.
+pub const DIMENSIONS: &[u8; 17] = b"XYZUVWPQRIJKABCDE";
 
 /// The two editions.
 #[derive(Clone, Copy, Debug, PartialEq, Eq)]
@@ -63,7 +65,7 @@ pub enum Dropped {
 pub enum Kind {
     /// G, M and T
     Plain,
-    /// F and S
+    /// F and S, and E and D where they are feeds
     Speed,
     /// all others
     Dimension {
@@ -102,17 +104,15 @@ pub struct Format {
     pub items: Vec<Item>,
 }
 
-/// What an item's digits are worth; `grows` where they end the text and further ones could follow.
-enum Digits {
-    /// in form: how many digits a G, M, T, F or S has
-    All(u32),
-    /// in form: a dimension's digits before the point and behind it. Dropped zeros are only by 2539
-    Point(u32, u32, Dropped),
-    /// further bytes can bring it into form, by both editions or only by 2539
-    Growing,
-    GrowingLater,
-    /// nothing can
-    Out,
+impl Item {
+    fn is_dimension(&self) -> bool {
+        matches!(self.kind, Kind::Dimension { .. })
+    }
+
+    /// F, and E and D where they are the second and third feed.
+    fn is_feed(&self) -> bool {
+        self.kind == Kind::Speed && self.letter != b'S'
+    }
 }
 
 /// The format of `text` by the edition numbered `edition`.
@@ -120,7 +120,6 @@ pub fn parse(edition: u32, text: &[u8]) -> Result<Format, Refusal> {
     let edition = Edition::numbered(edition).ok_or(Refusal::new(1, 0))?;
     let (sequence, mut at) = sequence_item(edition, text)?;
     let mut format = Format { sequence, tabs: false, items: Vec::with_capacity(ORDER.len()) };
-    let mut due = ORDER.as_slice();
     loop {
         match text.get(at) {
             None => return Err(Refusal::new(2, text.len())),
@@ -133,7 +132,7 @@ pub fn parse(edition: u32, text: &[u8]) -> Result<Format, Refusal> {
                 } else if format.tabs != dot {
                     return Err(Refusal::new(2, at));
                 }
-                let (item, end) = word_item(edition, text, at, dot, &mut due)?;
+                let (item, end) = word_item(edition, text, at, &format.items)?;
                 format.items.push(item);
                 at = end;
             }
@@ -156,77 +155,160 @@ fn sequence_item(edition: Edition, text: &[u8]) -> Result<(u32, usize), Refusal>
     }
 }
 
-/// The word item whose first byte stands at `at`: the item, and where it ends.
-fn word_item(edition: Edition, text: &[u8], at: usize, dot: bool, due: &mut &[u8]) -> Result<(Item, usize), Refusal> {
-    let out_of_form = Err(Refusal::new(2, at));
-    let unfinished = Err(Refusal::new(2, text.len()));
-    let address = at + usize::from(dot);
-    let Some(&letter) = text.get(address) else {
-        // a dot at the end of the text waits for any item that is still due
-        return if due.is_empty() { out_of_form } else { unfinished };
+/// The word item whose first byte stands at `at`, behind the items that `stood`: the item, and where it ends.
+fn word_item(edition: Edition, text: &[u8], at: usize, stood: &[Item]) -> Result<(Item, usize), Refusal> {
+    let dot = text[at] == b'.';
+    let (letter, data, end) = bytes_of_item(text, at + usize::from(dot));
+    let open = end == text.len();
+    // a dot that ends the text waits for any letter
+    let letters = letter.map_or(ORDER.as_slice(), std::slice::from_ref);
+    // only 2539 has items without dots
+    let mended_by = |edition| {
+        (dot || edition == Edition::Iso2539) && letters.iter().any(|&letter| can_be_mended(edition, stood, letter, data, open))
     };
-    let Some(rank) = due.iter().position(|&l| l == letter) else {
-        return out_of_form;
-    };
-    *due = &due[rank + 1..];
-
-    let mark = match text.get(address + 1) {
-        Some(b'+') if is_dimension(letter) => Mark::Absolute,
-        Some(b'D') if is_dimension(letter) => Mark::Incremental,
-        _ => Mark::Bare,
-    };
-    let start = address + 1 + usize::from(mark != Mark::Bare);
-    let end = digits_end(text, start);
-    let digits = digits_of(letter, &text[start..end], end == text.len());
-
-    let needs_2539 = !dot
-        || matches!(letter, b'I' | b'J' | b'K')
-        || matches!(digits, Digits::Point(_, _, Dropped::Leading | Dropped::Trailing) | Digits::GrowingLater);
-    if matches!(digits, Digits::Out) {
-        return out_of_form;
+    if !mended_by(Edition::Iso2539) {
+        return Err(Refusal::new(2, at));
     }
-    if needs_2539 && edition == Edition::Iso1057 {
+    if !mended_by(edition) {
         return Err(Refusal::new(3, at));
     }
-    let (kind, least, most) = match digits {
-        Digits::All(all) => (if matches!(letter, b'F' | b'S') { Kind::Speed } else { Kind::Plain }, all, all),
-        Digits::Point(before, behind, dropped) => {
-            let all = before + behind;
-            (Kind::Dimension { mark, before, dropped }, if dropped == Dropped::None { all } else { 1 }, all)
-        }
-        Digits::Growing | Digits::GrowingLater | Digits::Out => return unfinished,
+    let as_it_is = letter.and_then(|&letter| {
+        let mut roles = roles(letter).iter().filter(|&&role| may_stand(stood, letter, role));
+        roles.find_map(|&role| item_of(edition, letter, role, data))
+    });
+    as_it_is.map(|item| (item, end)).ok_or(Refusal::new(2, text.len()))
+}
+
+/// The letter that stands at `address`, none at the end of the text; the mark and all the digits that stand together
+/// behind it; and where they end.
+fn bytes_of_item(text: &[u8], address: usize) -> (Option<&u8>, &[u8], usize) {
+    let Some(letter) = text.get(address) else { return (None, &[], text.len()) };
+    let start = address + 1;
+    let marked = matches!(text.get(start), Some(b'+' | b'D'));
+    let end = digits_end(text, start + usize::from(marked));
+    (Some(letter), &text[start..end], end)
+}
+
+/// Whether `letter` and `data` are an item that may stand behind those that `stood` or, where they end the text and so
+/// are `open`, whether further bytes could make them one. A shorthand may end behind any item, so that nothing more
+/// needs to be looked for.
+fn can_be_mended(edition: Edition, stood: &[Item], letter: u8, data: &[u8], open: bool) -> bool {
+    roles(letter).iter().any(|&role| may_stand(stood, letter, role) && can_be(edition, letter, role, data, open))
+}
+
+/// Whether `data` or, where they are `open`, some continuation of them is in form for `letter` in that role.
+fn can_be(edition: Edition, letter: u8, role: Role, data: &[u8], open: bool) -> bool {
+    let further: &[u8] = if !open || data.len() >= most_data(role) {
+        b""
+    } else if data.is_empty() {
+        b"+D0123456789"
+    } else {
+        b"0123456789"
+    };
+    item_of(edition, letter, role, data).is_some()
+        || further.iter().any(|&byte| can_be(edition, letter, role, &[data, &[byte]].concat(), open))
+}
+
+/// What an item can be in the order of a shorthand.
+#[derive(Clone, Copy, PartialEq, Eq)]
+enum Role {
+    /// G, T and M
+    Plain,
+    /// S and the feeds
+    Speed,
+    Dimension,
+}
+
+/// What an item of `letter` can be. Of E and D their mark and digits say it.
+fn roles(letter: u8) -> &'static [Role] {
+    match letter {
+        b'G' | b'T' | b'M' => &[Role::Plain],
+        b'F' | b'S' => &[Role::Speed],
+        b'E' | b'D' => &[Role::Speed, Role::Dimension],
+        _ if DIMENSIONS.contains(&letter) => &[Role::Dimension],
+        _ => &[],
+    }
+}
+
+/// The most bytes behind an item's letter: one digit, or a mark and three.
+fn most_data(role: Role) -> usize {
+    match role {
+        Role::Plain | Role::Speed => 1,
+        Role::Dimension => 4,
+    }
+}
+
+/// The item of `letter` in that role with those `data`; none where they are out of form or beyond the edition.
+fn item_of(edition: Edition, letter: u8, role: Role, data: &[u8]) -> Option<Item> {
+    let of_all = |kind, digits| Some(Item { letter, kind, sign: Sign::Barred, least: digits, most: digits });
+    match (role, letter, data) {
+        (Role::Plain, b'G' | b'M', b"2") => of_all(Kind::Plain, 2),
+        (Role::Plain, b'T', &[digit @ b'1'..=b'9']) => of_all(Kind::Plain, value(digit)),
+        (Role::Speed, _, &[digit @ b'3'..=b'5']) => of_all(Kind::Speed, value(digit)),
+        (Role::Dimension, b'I' | b'J' | b'K', _) if edition == Edition::Iso1057 => None,
+        (Role::Dimension, _, _) => dimension_of(edition, letter, data),
+        _ => None,
+    }
+}
+
+/// The dimension of `letter` with that mark and those digits.
+fn dimension_of(edition: Edition, letter: u8, data: &[u8]) -> Option<Item> {
+    let (mark, digits) = match data {
+        [b'+', digits @ ..] => (Mark::Absolute, digits),
+        [b'D', digits @ ..] => (Mark::Incremental, digits),
+        digits => (Mark::Bare, digits),
+    };
+    if !digits.iter().all(u8::is_ascii_digit) {
+        return None;
+    }
+    let (before, behind, dropped) = match *digits {
+        [b'0', b'0'] => return None,
+        [a, b] => (value(a), value(b), Dropped::None),
+        _ if edition == Edition::Iso1057 => return None,
+        [b'0', a, b @ b'1'..=b'9'] => (value(a), value(b), Dropped::Leading),
+        [a @ b'1'..=b'9', b, b'0'] => (value(a), value(b), Dropped::Trailing),
+        _ => return None,
     };
     let sign = match (mark, edition) {
         (Mark::Bare, _) => Sign::Barred,
         (_, Edition::Iso1057) => Sign::Required,
         (_, Edition::Iso2539) => Sign::Optional,
     };
-    Ok((Item { letter, kind, sign, least, most }, end))
+    let most = before + behind;
+    let least = if dropped == Dropped::None { most } else { 1 };
+    Some(Item { letter, kind: Kind::Dimension { mark, before, dropped }, sign, least, most })
 }
 
-/// The digits that stand together in an item of `letter`; `grows` where they end the text.
-fn digits_of(letter: u8, digits: &[u8], grows: bool) -> Digits {
-    let value = |digit: u8| u32::from(digit - b'0');
-    match (letter, digits) {
-        (_, []) if grows => Digits::Growing,
-        (b'G' | b'M', b"2") => Digits::All(2),
-        (b'F' | b'S', &[digit @ b'3'..=b'5']) => Digits::All(value(digit)),
-        (b'T', &[digit @ b'1'..=b'9']) => Digits::All(value(digit)),
-        (b'G' | b'M' | b'F' | b'S' | b'T', _) => Digits::Out,
-        (_, [_]) if grows => Digits::Growing,
-        // `00` is refused, but `00b` is in form
-        (_, b"00") if grows => Digits::GrowingLater,
-        (_, b"00") => Digits::Out,
-        (_, &[a, b]) => Digits::Point(value(a), value(b), Dropped::None),
-        (_, &[b'0', a, b @ b'1'..=b'9']) => Digits::Point(value(a), value(b), Dropped::Leading),
-        (_, &[a @ b'1'..=b'9', b, b'0']) => Digits::Point(value(a), value(b), Dropped::Trailing),
-        _ => Digits::Out,
+fn value(digit: u8) -> u32 {
+    u32::from(digit - b'0')
+}
+
+/// Whether an item of `letter` in that role may stand behind the items that `stood`, which are where they may be.
+fn may_stand(stood: &[Item], letter: u8, role: Role) -> bool {
+    let last_dimension = stood.iter().rposition(Item::is_dimension);
+    let g2 = stood.iter().position(|earlier| earlier.letter == b'G');
+    // what stands behind the last dimension or, if there is none, behind G2 or N
+    let behind = &stood[last_dimension.or(g2).map_or(0, |at| at + 1)..];
+    // whether as feed or as dimension
+    let once = stood.iter().all(|earlier| earlier.letter != letter);
+    once && match (role, letter) {
+        (Role::Plain, b'G') => stood.is_empty(),
+        (Role::Dimension, _) => {
+            let in_order = last_dimension.is_none_or(|at| rank(stood[at].letter) < rank(letter));
+            // the feed of the dimension before it
+            let one_feed = last_dimension.is_some() && matches!(behind, [Item { letter: b'E' | b'D', .. }]);
+            in_order && (behind.is_empty() || one_feed)
+        }
+        // S stands behind the feeds, and they in any order
+        (Role::Speed, _) => behind.iter().all(Item::is_feed),
+        (Role::Plain, b'T') => behind.iter().all(|earlier| earlier.is_feed() || earlier.letter == b'S'),
+        // M stands behind all others
+        (Role::Plain, _) => true,
     }
 }
 
-/// Whether an item of `letter`, one of the order, is a dimension.
-fn is_dimension(letter: u8) -> bool {
-    !matches!(letter, b'G' | b'M' | b'T' | b'F' | b'S')
+fn rank(dimension: u8) -> Option<usize> {
+    DIMENSIONS.iter().position(|&letter| letter == dimension)
 }
 
 /// Where the digits that stand together from `start` on end.
@@ -314,6 +396,9 @@ mod tests {
         assert_eq!(item(1057, "N3.G2*"), made(b'G', Kind::Plain, Sign::Barred, 2, 2));
         assert_eq!(item(2539, "N3T9*"), made(b'T', Kind::Plain, Sign::Barred, 9, 9));
         assert_eq!(item(1057, "N3.S4*"), made(b'S', Kind::Speed, Sign::Barred, 4, 4));
+        assert_eq!(item(1057, "N3.E3*"), made(b'E', Kind::Speed, Sign::Barred, 3, 3));
+        assert_eq!(item(2539, "N3D5*"), made(b'D', Kind::Speed, Sign::Barred, 5, 5));
+        assert_eq!(item(1057, "N3.D53*"), made(b'D', dimension(Mark::Bare, 5, Dropped::None), Sign::Barred, 8, 8));
         assert_eq!(item(1057, "N3.X42*"), made(b'X', dimension(Mark::Bare, 4, Dropped::None), Sign::Barred, 6, 6));
         assert_eq!(item(1057, "N3.X+42*"), made(b'X', dimension(Mark::Absolute, 4, Dropped::None), Sign::Required, 6, 6));
         assert_eq!(item(2539, "N3.DD042*"), made(b'D', dimension(Mark::Incremental, 4, Dropped::Leading), Sign::Optional, 1, 6));
@@ -331,5 +416,150 @@ mod tests {
         assert_eq!(answer(2539, "N3.F6*"), (2, 2));
         assert_eq!(answer(2539, "N3.n2*"), (2, 2));
         assert_eq!(answer(1057, "N3.I42.X42.Y9*"), (3, 2));
+    }
+
+    /// Both editions answer the same.
+    fn both(text: &str) -> (u32, u64) {
+        assert_eq!(answer(1057, text), answer(2539, text), "{text}");
+        answer(2539, text)
+    }
+
+    #[test]
+    fn the_worked_cases_of_feeds() {
+        // two feeds behind a dimension are sound until a dimension follows
+        assert_eq!(both("N3.X42.E3.D3*"), (0, 0));
+        assert_eq!(both("N3.X42.E3.D3.Y42*"), (2, 12));
+        assert_eq!(both("N3.E3.X42*"), (2, 5));
+        assert_eq!(both("N3.X42.E3.E3*"), (2, 9));
+        assert_eq!(both("N3.X42.E4.Y42.E42*"), (2, 13));
+        // `E01` could still be meant, but not behind F
+        assert_eq!(both("N3.X42.E0"), (2, 9));
+        assert_eq!(both("N3.X42.F3.E0"), (2, 9));
+    }
+
+    #[test]
+    fn feeds_where_they_may_stand() {
+        // one directly behind a dimension
+        assert_eq!(both("N3.X42.E3*"), (0, 0));
+        // one behind each of two, in either order of the letters
+        assert_eq!(both("N3.X42.E3.Y42.D4*"), (0, 0));
+        assert_eq!(both("N3.X42.D4.Y42.E3*"), (0, 0));
+        // behind the last dimension in any order
+        assert_eq!(both("N3.X42.D5.Y42.F3.E3*"), (0, 0));
+        assert_eq!(both("N3.X42.F3.D3.E3*"), (0, 0));
+        assert_eq!(both("N3.X42.E3.F4.D5.S3.T2.M2*"), (0, 0));
+        // without a dimension, behind N or G2
+        assert_eq!(both("N3.E3.D3.F3*"), (0, 0));
+        assert_eq!(both("N3.G2.F4.E5*"), (0, 0));
+        // two digits are a dimension: X has the feed E, and D is the next dimension
+        assert_eq!(both("N3.X42.E3.D42*"), (0, 0));
+        assert_eq!(both("N3.X42.D3.E33.F3*"), (0, 0));
+        // D stands before E among dimensions, but a feed D may stand behind the dimension E
+        assert_eq!(both("N3.E42.D3*"), (0, 0));
+        // without dots, which are required in 1057
+        assert_eq!(answer(2539, "N3X42E3Y42D3F3*"), (0, 0));
+        assert_eq!(answer(1057, "N3X42E3Y42D3F3*"), (3, 2));
+        // a D directly behind a letter is its mark, so this is the feed E and the dimension D
+        assert_eq!(answer(2539, "N3X42E3DD42*"), (0, 0));
+        // zeros dropped in a dimension behind a feed
+        assert_eq!(answer(2539, "N3.X42.D3.E042*"), (0, 0));
+        // I may follow X's feed by 2539
+        assert_eq!(answer(2539, "N3.X42.E3.I42*"), (0, 0));
+        assert_eq!(answer(1057, "N3.X42.E3.I42*"), (3, 9));
+    }
+
+    #[test]
+    fn feeds_in_other_places() {
+        // F stands only behind the last dimension, so the fault is the dimension behind it
+        assert_eq!(both("N3.X42.F3.Y42*"), (2, 9));
+        assert_eq!(both("N3.X42.E3.F3.Y42*"), (2, 12));
+        // no dimension by either edition, whatever else I would be
+        assert_eq!(both("N3.X42.E3.D3.I42*"), (2, 12));
+        // a feed behind N or G2 says that no dimension follows
+        assert_eq!(both("N3.G2.E3.X42*"), (2, 8));
+        // G2 stands first: `N3.E3*` is sound, so it is the fault
+        assert_eq!(both("N3.E3.G2*"), (2, 5));
+        // S, T and M stand behind all feeds
+        assert_eq!(both("N3.X42.S3.E3*"), (2, 9));
+        assert_eq!(both("N3.T2.D"), (2, 5));
+        assert_eq!(both("N3.M2.F3*"), (2, 5));
+        // the order of dimensions goes on behind a feed
+        assert_eq!(both("N3.Y42.E3.X42*"), (2, 9));
+        assert_eq!(both("N3.X42.E3.X42*"), (2, 9));
+        // a letter once, whichever it is first
+        assert_eq!(both("N3.E42.E3*"), (2, 6));
+        assert_eq!(both("N3.X42.E3.E42*"), (2, 9));
+        assert_eq!(both("N3.X42.D3.Y42.D3*"), (2, 13));
+        assert_eq!(both("N3.F3.E3.F3*"), (2, 8));
+        // two digits behind the dimension E are a dimension D out of order
+        assert_eq!(both("N3.E42.D42*"), (2, 6));
+        // each item has a dot or none has
+        assert_eq!(both("N3.X42E3*"), (2, 6));
+        assert_eq!(answer(2539, "N3E3.D3*"), (2, 4));
+    }
+
+    #[test]
+    fn feeds_out_of_form() {
+        // a feed has 3, 4 or 5, a dimension more digits
+        for digit in [0, 1, 2, 6, 7, 8, 9] {
+            assert_eq!(both(&format!("N3.X42.E{digit}*")), (2, 6));
+            assert_eq!(both(&format!("N3.X42.D{digit}.F3*")), (2, 6));
+        }
+        // neither without a digit
+        assert_eq!(both("N3.E*"), (2, 2));
+        // a mark makes it a dimension, and one digit is too few
+        assert_eq!(both("N3.X42.E+3*"), (2, 6));
+        assert_eq!(answer(2539, "N3ED3*"), (2, 2));
+        // the digits are all that stand together: not the feed E3 and more
+        assert_eq!(both("N3.X42.E345*"), (2, 6));
+        assert_eq!(both("N3.X42.F3.E34*"), (2, 9));
+        // three digits are beyond 1057, and so is no dot; out of form comes before both
+        assert_eq!(answer(1057, "N3.X42.E042*"), (3, 6));
+        assert_eq!(answer(1057, "N3E3*"), (3, 2));
+        assert_eq!(answer(1057, "N3E2*"), (2, 2));
+        assert_eq!(answer(1057, "N3.X42.F3.E042*"), (2, 9));
+    }
+
+    #[test]
+    fn feeds_at_the_end_of_the_text() {
+        // E3 or E31 could be meant
+        assert_eq!(both("N3.X42.E"), (2, 8));
+        assert_eq!(both("N3.X42.E3"), (2, 9));
+        // no feed, but E21 could be meant; with a mark, E+31
+        assert_eq!(both("N3.X42.E2"), (2, 9));
+        assert_eq!(both("N3.X42.E+3"), (2, 10));
+        // behind X's feed D a dimension may stand: E01
+        assert_eq!(both("N3.X42.D3.E0"), (2, 12));
+        // no dimension may stand behind F, behind two feeds, behind a feed of none, behind the dimension E
+        assert_eq!(both("N3.X42.F3.E"), (2, 11));
+        assert_eq!(both("N3.X42.F3.E3"), (2, 12));
+        assert_eq!(both("N3.X42.F3.E2"), (2, 9));
+        assert_eq!(both("N3.X42.F3.E+"), (2, 9));
+        assert_eq!(both("N3.X42.F3.E34"), (2, 9));
+        assert_eq!(both("N3.X42.E3.D3.F"), (2, 14));
+        assert_eq!(both("N3.X42.E3.D3.C"), (2, 12));
+        assert_eq!(both("N3.D3.E0"), (2, 5));
+        assert_eq!(both("N3.D3.E"), (2, 7));
+        assert_eq!(both("N3.E42.D"), (2, 8));
+        assert_eq!(both("N3.E42.D4"), (2, 9));
+        assert_eq!(both("N3.E42.D2"), (2, 6));
+        assert_eq!(both("N3.E42.DD"), (2, 6));
+        // the letter has stood
+        assert_eq!(both("N3.X42.E3.Y42.E"), (2, 13));
+        assert_eq!(both("N3.E3.F3.E"), (2, 8));
+        // `00` could become E001, which is beyond 1057; behind F nothing could
+        assert_eq!(answer(2539, "N3.X42.E00"), (2, 10));
+        assert_eq!(answer(1057, "N3.X42.E00"), (3, 6));
+        assert_eq!(both("N3.X42.F3.E00"), (2, 9));
+        // a dot waits for any item that may still stand: none behind M2
+        assert_eq!(both("N3.X42.E3.D3."), (2, 13));
+        assert_eq!(both("N3.X42.E3.M2."), (2, 12));
+        // without dots, by 2539: E with the mark D could become ED31, but not behind F
+        assert_eq!(answer(2539, "N3ED3"), (2, 5));
+        assert_eq!(answer(2539, "N3F3ED"), (2, 4));
+        assert_eq!(answer(2539, "N3E2"), (2, 4));
+        // and by 1057 each of these lacks its dot
+        assert_eq!(answer(1057, "N3ED3"), (3, 2));
+        assert_eq!(answer(1057, "N3E2"), (3, 2));
     }
 }

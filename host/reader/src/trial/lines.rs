@@ -395,6 +395,7 @@ mod tests {
     fn formats_of_the_rules() {
         assert_eq!(format(1057, PLAIN), "F 1057 N3.G2.X+42.F3.M2* -> 0 0 3 dots 4 GP2 XD+4.2=s FS3 MP2");
         assert_eq!(format(2539, "N9X+042Y420ZD10*"), "F 2539 N9X+042Y420ZD10* -> 0 0 9 plain 3 XD+4.2Lb YD.4.2Tb ZDD1.0=b");
+        assert_eq!(format(1057, "N3.X42.E3.D42.F4*"), "F 1057 N3.X42.E3.D42.F4* -> 0 0 3 dots 4 XD.4.2=s ES3 DD.4.2=s FS4");
         assert_eq!(format(2539, "N3X+040*"), "F 2539 N3X+040* -> 2 2 0 plain 0");
         assert_eq!(format(1057, "N3.X+042*"), "F 1057 N3.X+042* -> 3 2 0 plain 0");
         assert_eq!(format(1, ""), "F 1  -> 1 0 0 plain 0");
