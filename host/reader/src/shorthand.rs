@@ -318,6 +318,9 @@ fn digits_end(text: &[u8], start: usize) -> usize {
 }
 
 #[cfg(test)]
+mod by_search;
+
+#[cfg(test)]
 mod tests {
     use super::*;
 

@@ -313,7 +313,7 @@ pub fn short_tapes(start: &(u32, &str, &str)) -> Vec<Input> {
 }
 
 /// Every text of at most `most` of the given bytes.
-fn texts(bytes: &[u8], most: usize) -> Vec<Vec<u8>> {
+pub(crate) fn texts(bytes: &[u8], most: usize) -> Vec<Vec<u8>> {
     let mut all = vec![Vec::new()];
     let mut longest = 0..1;
     for _ in 0..most {
