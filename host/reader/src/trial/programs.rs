@@ -5,7 +5,7 @@
 use super::chance::Chance;
 use crate::reading::{Block, Opening, Value};
 use crate::rows::{is_character, punched, BS, CR, DEL, HT, LF, NUL};
-use crate::shorthand::{Dropped, ORDER};
+use crate::shorthand::{Dropped, DIMENSIONS};
 
 /// A word item as it was made.
 #[derive(Clone, Copy)]
@@ -27,71 +27,126 @@ pub struct Plan {
     pub(super) items: Vec<(u8, Made)>,
 }
 
+/// A shorthand in its parts.
+pub(super) struct Sketch {
+    pub edition: u32,
+    pub sequence: usize,
+    pub tabs: bool,
+    pub items: Vec<Drawn>,
+}
+
+/// A word item with its text, but for the dot.
+pub(super) struct Drawn {
+    pub letter: u8,
+    pub made: Made,
+    pub text: Vec<u8>,
+}
+
+impl Sketch {
+    pub fn plan(&self) -> Plan {
+        let Sketch { edition, sequence, tabs, ref items } = *self;
+        let mut text = self.text(items.len());
+        text.push(b'*');
+        Plan { edition, text, sequence, tabs, items: items.iter().map(|item| (item.letter, item.made)).collect() }
+    }
+
+    /// The text of N and of the first `count` items.
+    pub fn text(&self, count: usize) -> Vec<u8> {
+        let mut text = format!("N{}", self.sequence).into_bytes();
+        for item in &self.items[..count] {
+            text.extend(self.tabs.then_some(b'.'));
+            text.extend_from_slice(&item.text);
+        }
+        text
+    }
+}
+
 /// A sound shorthand of either edition.
 pub fn plan(chance: &mut Chance) -> Plan {
+    sketch(chance).plan()
+}
+
+pub(super) fn sketch(chance: &mut Chance) -> Sketch {
     let newer = chance.happens(2, 3);
     let edition = if newer { 2539 } else { 1057 };
     let sequence = if newer { 3 + chance.below(7) } else { 3 };
     let tabs = !newer || chance.happens(1, 2);
-    let mut plan = Plan { edition, text: format!("N{sequence}").into_bytes(), sequence, tabs, items: Vec::new() };
-    // from none of the items to all of them
+    // from none of the letters to all of them, now and then hardly a dimension, and feeds more often than others
     let density = chance.below(11);
-    for &letter in ORDER {
-        if !chance.happens(density, 10) || (!newer && matches!(letter, b'I' | b'J' | b'K')) {
-            continue;
+    let sparse = if chance.happens(1, 4) { chance.below(3) } else { density };
+    let dense = density.max(chance.below(11));
+    // which of E and D are feeds; the others are dimensions
+    let second = chance.one_of(&[&b""[..], b"E", b"D", b"DE", b"DE", b"DE"]);
+    let first: Vec<u8> = DIMENSIONS.iter().copied().filter(|letter| !second.contains(letter)).collect();
+    let mut dimensions = some_of(chance, &first, sparse);
+    dimensions.retain(|letter| newer || !b"IJK".contains(letter));
+    let mut feeds = some_of(chance, b"F", dense);
+    // the feed behind each dimension that another one follows; the others stand behind the last
+    let mut own: Vec<Option<u8>> = vec![None; dimensions.len()];
+    for feed in some_of(chance, second, dense) {
+        let at = chance.below(dimensions.len().max(1));
+        if at + 1 < dimensions.len() && own[at].is_none() && chance.happens(2, 3) {
+            own[at] = Some(feed);
+        } else {
+            feeds.push(feed);
         }
-        if tabs {
-            plan.text.push(b'.');
-        }
-        plan.text.push(letter);
-        let made = item(chance, letter, newer, &mut plan.text);
-        plan.items.push((letter, made));
     }
-    plan.text.push(b'*');
-    plan
+    chance.shuffle(&mut feeds);
+    let mut items: Vec<Drawn> = Vec::new();
+    items.extend(some_of(chance, b"G", density).iter().map(|&letter| plain(chance, letter)));
+    for (&letter, own) in dimensions.iter().zip(own) {
+        items.push(dimension(chance, letter, newer));
+        items.extend(own.map(|letter| speed(chance, letter)));
+    }
+    items.extend(feeds.iter().map(|&letter| speed(chance, letter)));
+    items.extend(some_of(chance, b"S", density).iter().map(|&letter| speed(chance, letter)));
+    items.extend(some_of(chance, b"TM", density).iter().map(|&letter| plain(chance, letter)));
+    Sketch { edition, sequence, tabs, items }
 }
 
-/// Writes the mark and digits of one item.
-fn item(chance: &mut Chance, letter: u8, newer: bool, text: &mut Vec<u8>) -> Made {
-    let digit = |value: usize| b'0' + value as u8;
-    match letter {
-        b'G' | b'M' => {
-            text.push(b'2');
-            Made::Plain { digits: 2 }
-        }
-        b'T' => {
-            let digits = 1 + chance.below(9);
-            text.push(digit(digits));
-            Made::Plain { digits }
-        }
-        b'F' | b'S' => {
-            let digits = 3 + chance.below(3);
-            text.push(digit(digits));
-            Made::Speed { digits }
-        }
-        _ => {
-            let mark = chance.one_of(&[None, Some(b'+'), Some(b'D')]);
-            text.extend(mark);
-            let (mut a, mut b) = (chance.below(10), chance.below(10));
-            let dropped = match chance.below(3) {
-                1 if newer => Dropped::Leading,
-                2 if newer => Dropped::Trailing,
-                _ => Dropped::None,
-            };
-            match dropped {
-                Dropped::None if a + b == 0 => a = 1,
-                Dropped::Leading => b = b.max(1),
-                Dropped::Trailing => a = a.max(1),
-                Dropped::None => {}
-            }
-            match dropped {
-                Dropped::None => text.extend([digit(a), digit(b)]),
-                Dropped::Leading => text.extend([b'0', digit(a), digit(b)]),
-                Dropped::Trailing => text.extend([digit(a), digit(b), b'0']),
-            }
-            Made::Dimension { signed: mark.is_some(), digits: a + b, dropped }
-        }
+/// Of ten letters about `density`.
+fn some_of(chance: &mut Chance, letters: &[u8], density: usize) -> Vec<u8> {
+    letters.iter().copied().filter(|_| chance.happens(density, 10)).collect()
+}
+
+/// G, M or T.
+fn plain(chance: &mut Chance, letter: u8) -> Drawn {
+    let digits = if letter == b'T' { 1 + chance.below(9) } else { 2 };
+    Drawn { letter, made: Made::Plain { digits }, text: vec![letter, digit(digits)] }
+}
+
+/// S, or a feed: F, E or D.
+pub(super) fn speed(chance: &mut Chance, letter: u8) -> Drawn {
+    let digits = 3 + chance.below(3);
+    Drawn { letter, made: Made::Speed { digits }, text: vec![letter, digit(digits)] }
+}
+
+pub(super) fn dimension(chance: &mut Chance, letter: u8, newer: bool) -> Drawn {
+    let mark = chance.one_of(&[None, Some(b'+'), Some(b'D')]);
+    let mut text = vec![letter];
+    text.extend(mark);
+    let (mut a, mut b) = (chance.below(10), chance.below(10));
+    let dropped = match chance.below(3) {
+        1 if newer => Dropped::Leading,
+        2 if newer => Dropped::Trailing,
+        _ => Dropped::None,
+    };
+    match dropped {
+        Dropped::None if a + b == 0 => a = 1,
+        Dropped::Leading => b = b.max(1),
+        Dropped::Trailing => a = a.max(1),
+        Dropped::None => {}
     }
+    match dropped {
+        Dropped::None => text.extend([digit(a), digit(b)]),
+        Dropped::Leading => text.extend([b'0', digit(a), digit(b)]),
+        Dropped::Trailing => text.extend([digit(a), digit(b), b'0']),
+    }
+    Drawn { letter, made: Made::Dimension { signed: mark.is_some(), digits: a + b, dropped }, text }
+}
+
+fn digit(value: usize) -> u8 {
+    b'0' + value as u8
 }
 
 /// A punched tape with the blocks that stand on it.
@@ -339,6 +394,36 @@ mod tests {
             assert_eq!(reading::read(&format, &tape.rows, &mut blocks), Ok(()));
             assert_eq!(blocks, tape.blocks);
         }
+    }
+
+    /// Seen in the letters of the items, with `d` for a dimension and `f` for an E or D that is a feed.
+    #[test]
+    fn feeds_stand_wherever_they_may() {
+        let chance = &mut Chance::new(3);
+        let telling = ["dfd", "dfdfd", "dfdf", "dff", "dfF", "dFf", "dffF", "dfFf", "dFff", "Gf", "GFf", "GffF"];
+        let mut seen = [[[0; 12]; 2]; 2];
+        let mut in_order = [0; 2];
+        for _ in 0..20_000 {
+            let sketch = sketch(chance);
+            let class = |item: &Drawn| match (item.letter, item.made) {
+                (_, Made::Dimension { .. }) => 'd',
+                (b'E' | b'D', _) => 'f',
+                (letter, _) => char::from(letter),
+            };
+            let classes: String = sketch.items.iter().map(class).collect();
+            let seen = &mut seen[usize::from(sketch.edition == 2539)][usize::from(sketch.tabs)];
+            for (seen, telling) in seen.iter_mut().zip(telling) {
+                *seen += u32::from(classes.contains(telling));
+            }
+            let feeds = sketch.items.iter().filter(|item| class(item) == 'f').map(|item| item.letter);
+            in_order[usize::from(feeds.is_sorted())] += 1;
+        }
+        for (edition, tabs) in [(0, 1), (1, 0), (1, 1)] {
+            for (seen, telling) in seen[edition][tabs].iter().zip(telling) {
+                assert!(*seen > 20, "{telling}: {seen}");
+            }
+        }
+        assert!(in_order[0] > 1_000 && in_order[1] > 1_000);
     }
 
     #[test]
