@@ -1,6 +1,7 @@
 //! The inputs of the comparison, each settled by the seed and its number, and what the reader answers.
 
 use super::chance::Chance;
+use super::misplaced::{self, Slipped};
 use super::{damage, programs};
 use crate::rows::{punched, LF, MOST_ROWS};
 use crate::{count_blocks, listing, punching, speeds, Refusal};
@@ -118,7 +119,8 @@ pub fn tapes(seed: u64, size: usize) -> Vec<Input> {
             2 if chance.happens(1, 2) => bad_middling_tape(chance, &mut inputs),
             2..=5 => other_edition(chance, &mut inputs),
             6..=20 => odd_holes(chance, &mut inputs),
-            21..=50 => bad_shorthand(chance, &mut inputs),
+            21..=42 => bad_shorthand(chance, &mut inputs),
+            43..=50 => slipped_shorthand(chance, &mut inputs),
             51..=60 => other_format(chance, &mut inputs),
             61..=100 => sound(chance, &mut inputs),
             _ => bad_tape(chance, &mut inputs),
@@ -168,6 +170,13 @@ fn bad_shorthand(chance: &mut Chance, inputs: &mut Vec<Input>) {
     let rows = programs::tape(chance, &plan, 2).rows;
     let text = bad_text(chance, plan.text);
     inputs.push(Input::count(either_edition(chance), &text, rows));
+}
+
+/// A feed where none may stand, or the like.
+fn slipped_shorthand(chance: &mut Chance, inputs: &mut Vec<Input>) {
+    let Slipped { plan, text, refusal } = misplaced::slipped(chance);
+    let rows = programs::tape(chance, &plan, 2).rows;
+    inputs.push(Input::count(plan.edition, &text, rows).known(Err(refusal)));
 }
 
 /// A tape read by a format that it was not made by.

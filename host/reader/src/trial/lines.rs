@@ -2,6 +2,7 @@
 
 use super::chance::Chance;
 use super::inputs::{self, bad_text, either_edition, lent, strange_edition, Answer, Ask, Input};
+use super::misplaced::{self, Slipped};
 use super::programs;
 use super::records::{self, Handed};
 use crate::punching::{Record, Word, CLEARED};
@@ -310,7 +311,14 @@ fn some_block(chance: &mut Chance) -> u64 {
 /// `size` shorthands: sound, damaged, cut, and by other editions.
 pub fn formats(seed: u64, size: usize) -> Vec<Posed> {
     let chance = &mut Chance::new(seed);
-    (0..size).map(|_| Posed::of(format(chance))).collect()
+    (0..size).map(|_| if chance.happens(1, 8) { slipped_format(chance) } else { Posed::of(format(chance)) }).collect()
+}
+
+/// A feed where none may stand, or the like.
+fn slipped_format(chance: &mut Chance) -> Posed {
+    let Slipped { plan, text, refusal } = misplaced::slipped(chance);
+    let line = Line::Format { edition: plan.edition, shorthand: text };
+    Posed { line, known: Some((u64::from(refusal.number), refusal.place)) }
 }
 
 fn format(chance: &mut Chance) -> Line {

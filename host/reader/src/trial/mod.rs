@@ -6,5 +6,6 @@ pub mod damage;
 pub mod door;
 pub mod inputs;
 pub mod lines;
+pub mod misplaced;
 pub mod programs;
 pub mod records;

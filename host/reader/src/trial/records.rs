@@ -4,6 +4,7 @@
 
 use super::chance::Chance;
 use super::inputs::{bad_text, either_edition, strange_edition};
+use super::misplaced::{self, Slipped};
 use super::programs::{self, Made, Plan};
 use crate::punching::{Record, Word, CLEARED, PLACES};
 use crate::reading::{Opening, Value};
@@ -179,11 +180,16 @@ fn other_edition(chance: &mut Chance, handed: &mut Handed) -> Known {
     None
 }
 
-/// The record by a shorthand that it was not made by: cut, damaged, or of the other edition.
+/// The record by a shorthand that it was not made by: cut, damaged, with a slip, or of the other edition.
 fn other_shorthand(chance: &mut Chance, handed: &mut Handed) -> Known {
-    match chance.below(3) {
-        0 => handed.shorthand.truncate(chance.below(handed.shorthand.len())),
-        1 => handed.shorthand = bad_text(chance, handed.shorthand.clone()),
+    match chance.below(7) {
+        0 | 1 => handed.shorthand.truncate(chance.below(handed.shorthand.len())),
+        2 | 3 => handed.shorthand = bad_text(chance, handed.shorthand.clone()),
+        4 => {
+            let Slipped { plan, text, refusal } = misplaced::slipped(chance);
+            (handed.edition, handed.shorthand) = (plan.edition, text);
+            return Some(Err(refusal));
+        }
         _ => handed.shorthand = programs::plan(chance).text,
     }
     handed.edition = either_edition(chance);
