@@ -281,44 +281,58 @@ fn long_tape(chance: &mut Chance, at: usize) -> Input {
     Input::count(plan.edition, &plan.text, tape).known(Err(Refusal::new(4, MOST_ROWS)))
 }
 
-/// Beginnings of shorthands, each followed by every short text of telling bytes.
-pub const SHORTHAND_STARTS: &[&str] =
-    &["", "N", "N3", "N4", "N3.", "N3.X", "N3.XD", "N3.X0", "N3X", "N3.M2", "N3M2", "N3.X42", "N3X42", "N3.T1."];
-const SHORTHAND_BYTES: &[u8] = b".XIGMF+D023*N";
+/// Telling bytes, and beginnings of shorthands that every short text of them follows.
+pub const SHORTHAND_STARTS: &[(&[u8], &[&str])] = &[
+    (
+        b".XIGMF+D023*N",
+        &["", "N", "N3", "N4", "N3.", "N3.X", "N3.XD", "N3.X0", "N3X", "N3.M2", "N3M2", "N3.X42", "N3X42", "N3.T1."],
+    ),
+    // feeds behind an axis, behind N and behind each other
+    (b".EDYFG+0234*", &["N3.X42.E3", "N3.X42.E3.D", "N3X42D3", "N3.D"]),
+];
 
-/// Every shorthand of `start` and at most four telling bytes, by both editions.
-pub fn short_shorthands(start: &str) -> Vec<Input> {
+/// Every shorthand of `start` and at most four of those bytes, by both editions.
+pub fn short_shorthands(bytes: &[u8], start: &str) -> Vec<Input> {
     let mut inputs = Vec::new();
-    for end in texts(SHORTHAND_BYTES, 4) {
+    for end in texts(bytes, 4) {
         let text = [start.as_bytes(), &end].concat();
         inputs.extend([1057, 2539].map(|edition| Input::count(edition, &text, vec![punched(b'%'), punched(LF)])));
     }
     inputs
 }
 
-/// Editions, formats and beginnings of tapes, each followed by every short run of telling characters.
-pub const TAPE_STARTS: &[(u32, &str, &str)] = &[
-    (1057, "N3.X+11.F3*", ""),
-    (1057, "N3.X+11.F3*", "%"),
-    (1057, "N3.X+11.F3*", "%\nN001"),
-    (1057, "N3.X+11.F3*", "%\nN001\t"),
-    (1057, "N3.X+11.F3*", "%\nN001\tX"),
-    (1057, "N3.X+11.F3*", "%\nN001\t\tF1"),
-    (2539, "N3.X11.F3*", "%\n/:001\tX0"),
-    (2539, "N3X+011F3*", "%\nN001"),
-    (2539, "N3X+011F3*", "%\nN001X"),
-    (2539, "N3XD110F3*", "%\nN001X-0"),
-    (2539, "N3X11F3*", "%\nN001X11F0"),
-    (2539, "N3*", "%\nN00"),
-    (2539, "N3*", "%\n(A"),
+/// Telling characters; and editions, formats and beginnings of tapes that every short run of them follows.
+pub const TAPE_STARTS: &[(&[u8], &[TapeStart])] = &[
+    (
+        b"\0\t\n\r0+-/:()%NXF",
+        &[
+            (1057, "N3.X+11.F3*", ""),
+            (1057, "N3.X+11.F3*", "%"),
+            (1057, "N3.X+11.F3*", "%\nN001"),
+            (1057, "N3.X+11.F3*", "%\nN001\t"),
+            (1057, "N3.X+11.F3*", "%\nN001\tX"),
+            (1057, "N3.X+11.F3*", "%\nN001\t\tF1"),
+            (2539, "N3.X11.F3*", "%\n/:001\tX0"),
+            (2539, "N3X+011F3*", "%\nN001"),
+            (2539, "N3X+011F3*", "%\nN001X"),
+            (2539, "N3XD110F3*", "%\nN001X-0"),
+            (2539, "N3X11F3*", "%\nN001X11F0"),
+            (2539, "N3*", "%\nN00"),
+            (2539, "N3*", "%\n(A"),
+        ],
+    ),
+    // words of E and D as feed and as dimension
+    (b"\0\t\n01+DEF", &[(1057, "N3.X+11.E3.D+11*", "%\nN001\t\tE1"), (2539, "N3X11D3E01F3*", "%\nN001D11")]),
 ];
-const TAPE_CHARACTERS: &[u8] = b"\0\t\n\r0+-/:()%NXF";
 
-/// Every tape of a beginning and at most four telling characters.
-pub fn short_tapes(start: &(u32, &str, &str)) -> Vec<Input> {
+/// An edition, a format and the beginning of a tape.
+pub type TapeStart = (u32, &'static str, &'static str);
+
+/// Every tape of a beginning and at most four of those characters.
+pub fn short_tapes(characters: &[u8], start: &TapeStart) -> Vec<Input> {
     let (edition, shorthand, start) = start;
     let tape = |end: Vec<u8>| start.bytes().chain(end).map(punched).collect();
-    texts(TAPE_CHARACTERS, 4).into_iter().map(|end| Input::count(*edition, shorthand.as_bytes(), tape(end))).collect()
+    texts(characters, 4).into_iter().map(|end| Input::count(*edition, shorthand.as_bytes(), tape(end))).collect()
 }
 
 /// Every text of at most `most` of the given bytes.
@@ -492,4 +506,24 @@ pub fn readable(tape: &[u8]) -> String {
 pub fn hex(tape: &[u8]) -> String {
     let shown = &tape[..tape.len().min(PRINTED)];
     shown.iter().map(|row| format!("{row:02x}")).collect()
+}
+
+#[cfg(test)]
+mod tests {
+    use super::*;
+
+    /// What is tried exhaustively tries something: each beginning of feeds has sound and unsound ends.
+    #[test]
+    fn beginnings_of_feeds() {
+        let (bytes, starts) = SHORTHAND_STARTS[1];
+        let (characters, tapes) = TAPE_STARTS[1];
+        let shorthands = starts.iter().map(|start| short_shorthands(bytes, start));
+        for inputs in shorthands.chain(tapes.iter().map(|start| short_tapes(characters, start))) {
+            let sound = inputs.iter().filter(|input| input.ask.answer().number == 0).count();
+            assert!((10..inputs.len() / 2).contains(&sound), "{sound} of {}", inputs.len());
+        }
+        for (edition, shorthand, _) in TAPE_STARTS.iter().flat_map(|(_, starts)| *starts) {
+            assert!(crate::shorthand::parse(*edition, shorthand.as_bytes()).is_ok(), "{shorthand}");
+        }
+    }
 }

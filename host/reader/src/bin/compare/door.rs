@@ -39,11 +39,15 @@ fn batches(inputs: usize) -> Vec<Batch<'static, Input>> {
         batches.push(Box::new(|seed| inputs::long_tapes(seed, LONG_BATCH)));
     }
     batches.push(Box::new(move |seed| inputs::numbers(seed, inputs / 5)));
-    for start in inputs::SHORTHAND_STARTS {
-        batches.push(Box::new(|_| inputs::short_shorthands(start)));
+    for (bytes, starts) in inputs::SHORTHAND_STARTS {
+        for start in *starts {
+            batches.push(Box::new(|_| inputs::short_shorthands(bytes, start)));
+        }
     }
-    for start in inputs::TAPE_STARTS {
-        batches.push(Box::new(|_| inputs::short_tapes(start)));
+    for (characters, starts) in inputs::TAPE_STARTS {
+        for start in *starts {
+            batches.push(Box::new(|_| inputs::short_tapes(characters, start)));
+        }
     }
     batches
 }
