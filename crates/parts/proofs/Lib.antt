@@ -2,3 +2,4 @@
 pub mod Entering
 pub mod Marks
 pub mod Leading
+pub mod Reaching

@@ -3,7 +3,6 @@ use Prim.Native.Nat.{ℕ}
 use mathlib.Core.List.{List}
 use Rattle.rows.specs.Answer.{Answer, refusal}
 use Rattle.rows.specs.Kept.{keptAt}
-use Rattle.rows.specs.declared.Next.the-variants.{Row}
 use Rattle.rows.specs.declared.Refusal.{Refusal}
 use Rattle.words.specs.Figures.{Behind, taking}
 use Rattle.words.specs.Front.{rowsAt}
@@ -31,7 +30,7 @@ abbrev pub startTold : List ℕ → StartRead → Answer (Behind Begun)
 startTold t (StartRead.Is b front) = taking b (rowsAt t front)
 startTold t (StartRead.Refused r) = refusal r
 
-abbrev pub reachTold : List ℕ → ℕ → Reach → Standing
-reachTold t c Reach.Stops = stops
-reachTold t c (Reach.Out front) = out (rowsAt t front)
-reachTold t c (Reach.At p a) = at (rowsAt t (Row c p a))
+abbrev pub reachTold : List ℕ → Reach → Standing
+reachTold t Reach.Stops = stops
+reachTold t (Reach.Out front) = out (rowsAt t front)
+reachTold t (Reach.At p front) = at p (rowsAt t front)

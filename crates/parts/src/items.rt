@@ -1,4 +1,4 @@
-// How an item stands, with tabs or without, and which item is due next: a letter leads straight to its item, so that those left out between are not
+// How an item stands, by how its word is known, and which item is due next: a letter leads straight to its item, so that those left out between are not
 // tried one by one.
 ghost use mathlib.Core.Path.{_≡_};
 ghost use mathlib.Core.Bool.{cond};
@@ -6,9 +6,10 @@ ghost use mathlib.Core.List.{List};
 ghost use Prim.Native.Nat.{ℕ};
 ghost use lib.ListN.{length};
 ghost use Rattle.shorthand.specs.Facts.{Facts};
-ghost use Rattle.words.specs.Figures.{fronts};
+ghost use Rattle.shorthand.specs.Layout.{by-letter, by-tab, wayBy};
+ghost use Rattle.words.specs.Figures.{frontPlace};
 ghost use Rattle.words.specs.Front.{rowsAt};
-ghost use Rattle.parts.specs.Items.{Standing, standing, Leads, dueAt};
+ghost use Rattle.parts.specs.Items.{Standing, begins, standing, Leads, dueAt};
 ghost use Rattle.parts.specs.Items.{rulesOf};
 ghost use Rattle.parts.specs.Front.{reachTold};
 use crate::Reach;
@@ -16,9 +17,9 @@ use crate::Rules;
 use rows::Next;
 use shorthand::Format;
 
-// Whether the fetched row is the address.
-fn at_letter(letter: u8, front: Next) -> Reach
-    ensures { λ r. ⌜ ((t : List ℕ) → reachTold t letter r ≡ cond (fronts letter (rowsAt t front)) (Standing.at (rowsAt t front)) (Standing.out (rowsAt t front))) ⌝ }
+// Whether the fetched row is the address; the data stand behind it.
+fn at_letter(tape: &[u8], letter: u8, front: Next) -> Reach
+    ensures { λ r. ⌜ reachTold (now (tape .entry)) r ≡ standing by-letter letter (rowsAt (now (tape .entry)) front) ⌝ }
 {
     let Next::Row {
         character,
@@ -29,15 +30,36 @@ fn at_letter(letter: u8, front: Next) -> Reach
         return Reach::Out(front);
     };
     if character == letter {
-        Reach::At(place, after)
+        Reach::At(place, rows::next_kept(tape, after))
+    } else {
+        Reach::Out(front)
+    }
+}
+
+// Whether the fetched row is a digit or a sign, with which the data of a word without address begin.
+fn at_figure(front: Next) -> Reach
+    ensures { λ r. ⌜ ((t : List ℕ) (c : ℕ) → reachTold t r ≡ cond (begins by-tab c (rowsAt t front)) (Standing.at (frontPlace (rowsAt t front)) (rowsAt t front)) (Standing.out (rowsAt t front))) ⌝ }
+{
+    let Next::Row {
+        character,
+        place,
+        after: _,
+    } = front
+    else {
+        return Reach::Out(front);
+    };
+    let sign = (character == 43) | (character == 45);
+    let digit = (48 <= character) & (character <= 57);
+    if digit | sign {
+        Reach::At(place, front)
     } else {
         Reach::Out(front)
     }
 }
 
 // How the item of a letter stands: with tabs behind an HT.
-pub fn reach_item(tape: &[u8], dots: bool, letter: u8, front: Next) -> Reach
-    ensures { λ r. ⌜ reachTold (now (tape .entry)) letter r ≡ standing dots letter (rowsAt (now (tape .entry)) front) ⌝ }
+pub fn reach_item(tape: &[u8], dots: bool, addresses: bool, letter: u8, front: Next) -> Reach
+    ensures { λ r. ⌜ reachTold (now (tape .entry)) r ≡ standing (wayBy dots addresses) letter (rowsAt (now (tape .entry)) front) ⌝ }
 {
     if dots {
         let Next::Row {
@@ -51,9 +73,13 @@ pub fn reach_item(tape: &[u8], dots: bool, letter: u8, front: Next) -> Reach
         if character != 9 {
             return Reach::Stops;
         }
-        return at_letter(letter, rows::next_kept(tape, after));
+        let next = rows::next_kept(tape, after);
+        if addresses {
+            return at_letter(tape, letter, next);
+        }
+        return at_figure(next);
     }
-    at_letter(letter, front)
+    at_letter(tape, letter, front)
 }
 
 // What a step has to know of a Format.
@@ -63,6 +89,7 @@ pub fn rules_of(format: Format) -> Rules
     Rules {
         digits: format.sequence as usize,
         dots: format.dots,
+        addresses: format.addresses,
         items: format.count,
     }
 }

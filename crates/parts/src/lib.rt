@@ -30,16 +30,17 @@ pub enum StartRead {
     Refused(Refusal),
 }
 
-// How an item stands: it can't be reached, its word is left out, or its address is at a place.
+// How an item stands: it can't be reached, its word is left out, or its word begins at a place, with its data at the front.
 pub enum Reach {
     Stops,
     Out(Next),
-    At(usize, usize),
+    At(usize, Next),
 }
 
-// What a step has to know of a Format: N's digits, tabs or none, and how many items there are.
+// What a step has to know of a Format: N's digits, tabs or none, whether words have addresses, and how many items there are.
 pub struct Rules {
     pub digits: usize,
     pub dots: bool,
+    pub addresses: bool,
     pub items: usize,
 }

@@ -1,8 +1,8 @@
 -- Every lawful Format has the facts that reading and punching rest on.
 use Prim.Native.Nat.{ℕ, zero, suc, _+_, _≤_}
 use native.Mathlib.Omega.{arith}
-use mathlib.Core.Path.{_≡_, ap, _∙_}
-use mathlib.Core.Bool.{false, _||_}
+use mathlib.Core.Path.{_≡_, sym, ap, _∙_}
+use mathlib.Core.Bool.{Bool, false, _||_}
 use mathlib.Core.List.{List}
 use lib.Dec.{T, eqb}
 use Rattle.rows.specs.Answer.{taken}
@@ -14,7 +14,7 @@ use Rattle.shorthand.specs.declared.Item.{Item}
 use Rattle.shorthand.specs.declared.Format.{Format}
 use Rattle.shorthand.specs.declared.Order.{Order}
 use Rattle.shorthand.specs.declared.Edition.{Edition}
-use Rattle.shorthand.specs.Layout.{itemsOf}
+use Rattle.shorthand.specs.Layout.{formatOf, addressed, itemsOf}
 use Rattle.shorthand.specs.Edition.{later, sequenceMost}
 use Rattle.shorthand.specs.Lawful.{plainKind, speedKind, figuresFit, dimensionKind, Distinct, lettersOf, Lawful}
 use Rattle.shorthand.specs.Order.{start}
@@ -78,8 +78,12 @@ lawful-facts {n} {f} k =
       sequence = (within 3 (sequenceMost e) (f .sequence) (l .sequence) .0, sequence-small e (f .sequence) (l .sequence));
       few = omega (arith, ap (λ (g : Format). g .count) (l .parts), items-few walk);
       fair = rw spelled (fair walk (l .order .once));
-      parts = rw spelled (l .parts);
+      parts = rw spelled (l .parts ∙ ap (λ (b : Bool). addressed b (formatOf (f .sequence) (f .dots) (l .items))) (sym (ap (λ (g : Format). g .addresses) (l .parts))));
     }
+
+-- whether words have addresses is none of them
+pub addressed-facts : {f : Format} (b : Bool) → Facts f → Facts (addressed b f)
+addressed-facts b h = record { sequence = h .sequence; few = h .few; fair = h .fair; parts = ap (addressed b) (h .parts) }
 
 pub accepted-facts : (n : ℕ) (t : List ℕ) (f : Format) → parsed n t ≡ taken f → Facts f
 accepted-facts n t f q = lawful-facts (sound n t f q .1)

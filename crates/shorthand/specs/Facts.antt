@@ -8,7 +8,7 @@ use Rattle.shorthand.specs.declared.Kind.{Kind}
 use Rattle.shorthand.specs.declared.Kind.the-variants.{Plain, Speed, Dimension}
 use Rattle.shorthand.specs.declared.Item.{Item}
 use Rattle.shorthand.specs.declared.Format.{Format}
-use Rattle.shorthand.specs.Layout.{itemsOf, formatOf}
+use Rattle.shorthand.specs.Layout.{itemsOf, formatOf, addressed}
 use Rattle.shorthand.specs.Edition.{letters, anyOf}
 
 -- 1 to 9 digits of a plain word, 3 to 5 of a speed, 1 to 18 of a dimension
@@ -27,4 +27,4 @@ pub record Facts (f : Format) : Type 0 where
   pub sequence : (3 ≤ f .sequence) × (f .sequence ≤ 9)
   pub few : f .count ≤ 22
   pub fair : Fair (itemsOf f)
-  pub parts : f ≡ formatOf (f .sequence) (f .dots) (itemsOf f)
+  pub parts : f ≡ addressed (f .addresses) (formatOf (f .sequence) (f .dots) (itemsOf f))

@@ -1,13 +1,12 @@
--- A Format as its parts: N's digits, dots or none, and the items; and what reading and punching need of an item.
+-- A Format as its parts: N's digits, dots or none, whether words have addresses, and the items; and what reading and punching need of these.
 use Prim.Native.Nat.{ℕ, _+_, _-_}
 use mathlib.Core.Bool.{Bool, true, false, cond}
-use mathlib.Core.List.{List, [], _∷_, _++_}
+use mathlib.Core.List.{List, [], _++_}
 use lib.ListN.{length, take, replicate}
 use Rattle.shorthand.specs.declared.Mark.{Mark}
 use Rattle.shorthand.specs.declared.Mark.the-variants.{Unmarked, Plus, Delta}
 use Rattle.shorthand.specs.declared.Missing.{Missing}
 use Rattle.shorthand.specs.declared.Missing.the-variants.{Nothing, Leading, Trailing}
-use Rattle.shorthand.specs.declared.Figures.{Figures}
 use Rattle.shorthand.specs.declared.Kind.{Kind}
 use Rattle.shorthand.specs.declared.Kind.the-variants.{Plain, Speed, Dimension}
 use Rattle.shorthand.specs.declared.Item.{Item}
@@ -17,9 +16,13 @@ use Rattle.shorthand.specs.declared.Format.{Format}
 abbrev pub blank : Item
 blank = record { letter = 0; kind = Plain 0 }
 
--- the Format with these parts: the items and then unused places, 22 in all
+-- the Format with these parts: the items and then unused places, 22 in all; by the detailed shorthand words have addresses
 abbrev pub formatOf : ℕ → Bool → List Item → Format
-formatOf n dots its = record { sequence = n; dots = dots; count = length its; items = its ++ replicate (22 - length its) blank }
+formatOf n dots its = record { sequence = n; dots = dots; addresses = true; count = length its; items = its ++ replicate (22 - length its) blank }
+
+-- a Format whose words have addresses, or not
+abbrev pub addressed : Bool → Format → Format
+addressed b f = record { sequence = f .sequence; dots = f .dots; addresses = b; count = f .count; items = f .items }
 
 -- the items of a Format
 abbrev pub itemsOf : Format → List Item
@@ -28,6 +31,20 @@ itemsOf f = take (f .count) (f .items)
 -- what a refusal hands back
 abbrev pub emptyFormat : Format
 emptyFormat = formatOf 0 false []
+
+-- how an item's word is known: by its address; by its tab, and the address behind it; or by its tab alone (A, S and T of the general shorthand)
+pub data Way : Type 0 where
+  by-letter by-both by-tab : Way
+
+-- dots are tabs on the tape; without them words always have addresses
+abbrev pub wayBy : Bool → Bool → Way
+wayBy false addresses = by-letter
+wayBy true true = by-both
+wayBy true false = by-tab
+
+-- how a Format's words are known
+abbrev pub wayOf : Format → Way
+wayOf f = wayBy (f .dots) (f .addresses)
 
 -- how many digits an item's word has, all punched
 abbrev pub width : Kind → ℕ

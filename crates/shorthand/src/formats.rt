@@ -35,6 +35,7 @@ fn start_format(sequence: u8) -> Format
     Format {
         sequence,
         dots: false,
+        addresses: true,
         count: 0,
         items: [unused; 22],
     }
@@ -51,7 +52,8 @@ fn push_item(mut format: Format, dots: bool, item: Item) -> Format
     format
 }
 
-pub(crate) fn refuse(number: u32, place: usize) -> Parsed
+// A refusal, with the Format that it hands back.
+pub fn refuse(number: u32, place: usize) -> Parsed
     ensures { λ r. ⌜ Says r (refused number place) ⌝ }
 {
     Parsed {

@@ -12,7 +12,7 @@ mod orders;
 mod pieces;
 
 use formats::read_items;
-use formats::refuse;
+pub use formats::refuse;
 use items::sequence_at;
 use rows::Checked;
 
@@ -57,10 +57,11 @@ pub struct Item {
     pub kind: Kind,
 }
 
-// N's digits, dots or none, and the items.
+// N's digits, dots or none, whether words have addresses, and the items.
 pub struct Format {
     pub sequence: u8,
     pub dots: bool,
+    pub addresses: bool,
     pub count: usize,
     pub items: [Item; 22],
 }

@@ -8,8 +8,8 @@ use lib.ListN.{length}
 use Rattle.rows.specs.Answer.{Answer, taken, refused}
 use Rattle.rows.specs.Kept.{KeptRow}
 use Rattle.shorthand.specs.declared.Item.{Item}
-use Rattle.shorthand.specs.declared.Format.{Format}
 use Rattle.shorthand.specs.Facts.{Widths}
+use Rattle.shorthand.specs.Layout.{wayBy}
 use Rattle.words.specs.declared.Word.{Word}
 use Rattle.words.specs.Figures.{Behind}
 use Rattle.words.specs.Data.{wordAt}
@@ -71,7 +71,7 @@ reads on s (refused n p) = halted s n p
 abbrev pub takes : ℕ → Item → (ℕ → List KeptRow → Spot) → Spot → Standing → Moved
 takes len it on s stops = record { event = Out; spot = ending (s .rows) }
 takes len it on s (out r) = record { event = Out; spot = on (s .item + 1) r }
-takes len it on s (at r) = reads on s (wordAt len it r)
+takes len it on s (at a r) = reads on s (wordAt len it a r)
 
 -- behind the items: an end
 abbrev pub closesBy : Spot → Answer (Behind ℕ) → Moved
@@ -80,7 +80,7 @@ closesBy s (refused n p) = halted s n p
 
 abbrev pub stepBy : ℕ → Rules → Item → (ℕ → List KeptRow → Spot) → Spot → Stage → Moved
 stepBy len u it on s Between = openStep len u on s (s .rows)
-stepBy len u it on s Before = takes len it on s (standing (u .dots) (it .letter) (s .rows))
+stepBy len u it on s Before = takes len it on s (standing (wayBy (u .dots) (u .addresses)) (it .letter) (s .rows))
 stepBy len u it on s Ending = closesBy s (closeAt len (s .rows))
 
 -- one step of a tape of so many rows, under a Format's rules and where its letters lead, with the item there

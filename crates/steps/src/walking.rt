@@ -4,6 +4,7 @@ ghost use mathlib.Core.List.{List};
 ghost use Prim.Native.Nat.{ℕ, _≤_, _<_};
 ghost use lib.ListN.{length};
 ghost use Rattle.shorthand.specs.Facts.{Widths};
+ghost use Rattle.shorthand.specs.Layout.{wayBy};
 ghost use Rattle.words.specs.Front.{rowsAt};
 ghost use Rattle.parts.specs.Ends.{closeAt};
 ghost use Rattle.parts.specs.Items.{standing};
@@ -80,11 +81,11 @@ fn open_block(tape: &[u8], rules: Rules, leads: &[u8], cursor: Cursor) -> Step
 // Before an item: its word, or it is left out.
 fn take_item(tape: &[u8], rules: Rules, leads: &[u8], item: Item, cursor: Cursor) -> Step
     requires { ⌜ Widths (item .kind) × (256 ≡ length (now leads)) × (cursor .item < 22) ⌝ }
-    ensures { λ r. ⌜ stepTold (now (tape .entry)) r ≡ takes (length (now (tape .entry))) item (going rules (now (leads .entry))) (spotTold (now (tape .entry)) cursor) (standing (rules .dots) (item .letter) (rowsAt (now (tape .entry)) (cursor .front))) ⌝ }
+    ensures { λ r. ⌜ stepTold (now (tape .entry)) r ≡ takes (length (now (tape .entry))) item (going rules (now (leads .entry))) (spotTold (now (tape .entry)) cursor) (standing (wayBy (rules .dots) (rules .addresses)) (item .letter) (rowsAt (now (tape .entry)) (cursor .front))) ⌝ }
 {
     let front = cursor.front;
     let next_item = cursor.item + 1;
-    match reach_item(tape, rules.dots, item.letter, front) {
+    match reach_item(tape, rules.dots, rules.addresses, item.letter, front) {
         Reach::Stops => Step {
             event: Event::Out,
             cursor: Cursor {
@@ -97,8 +98,8 @@ fn take_item(tape: &[u8], rules: Rules, leads: &[u8], item: Item, cursor: Cursor
             event: Event::Out,
             cursor: go_on(rules, leads, next_item, next),
         },
-        Reach::At(place, after) => {
-            let answer = read_word(tape, item, place, after);
+        Reach::At(place, data) => {
+            let answer = read_word(tape, item, place, data);
             let WordRead::Is(word, rest) = answer else {
                 return Step {
                     event: Event::Refused(word_refusal(answer)),

@@ -1,4 +1,4 @@
--- A word: what stands behind its address, by its item's kind (document 01, "Four stages" and the refusal table: 11, 12, 13).
+-- A word's data, behind its address or its tab, by its item's kind (document 01, "Four stages" and the refusal table: 11, 12, 13).
 use Prim.Native.Nat.{ℕ}
 use mathlib.Core.Bool.{Bool, true, false}
 use mathlib.Core.List.{List}
@@ -14,29 +14,29 @@ use Rattle.words.specs.declared.Value.{Value}
 use Rattle.words.specs.declared.Value.the-variants.{Number}
 use Rattle.words.specs.declared.Word.{Word}
 use Rattle.words.specs.declared.Wanted.{Wanted}
-use Rattle.words.specs.Figures.{Behind, taking, behind, frontPlace, figures, signed}
+use Rattle.words.specs.Figures.{Behind, taking, figures, signed}
 
 -- minus zero is zero
 abbrev pub signedValue : Bool → ℕ → ℤ
 signedValue true m = negℤ (pos m)
 signedValue false m = pos m
 
--- 13 stands at the address
+-- 13 stands at the word's first row: its address, or without addresses its first digit
 abbrev pub spoken : ℕ → Answer ℕ → Answer Value
 spoken a (taken v) = taken (Value.Speed v)
 spoken a (refused n p) = refused n a
 
--- what the figures of a word mean, whose address stands at row a
+-- what the figures of a word mean that begins at row a
 abbrev pub meant : ℕ → Kind → Bool → ℕ → Answer Value
 meant a (Plain n) minus m = taken (Number m)
 meant a (Kind.Speed k) minus m = spoken a (speedFor k m)
 meant a (Kind.Dimension d) minus m = taken (Value.Dimension (signedValue minus m))
 
--- the data behind an address at row a: the sign (12), the digits (11), and then 13
+-- the data of a word that begins at row a: the sign (12), the digits (11), and then 13
 unfoldable pub dataAt : ℕ → ℕ → Kind → List KeptRow → Answer (Behind Value)
 dataAt len a k rs =
     signed len (signOf k) rs >>= λ s. figures len Wanted.Digits (missingOf k) (width k) (s .rest) >>= λ m. meant a k (s .value) (m .value) >>= λ x. taking x (m .rest)
 
--- the word of an item whose address stands at the front
-abbrev pub wordAt : ℕ → Item → List KeptRow → Answer (Behind Word)
-wordAt len it rs = dataAt len (frontPlace rs) (it .kind) (behind rs) >>= λ x. taking (record { letter = it .letter; value = x .value }) (x .rest)
+-- the word of an item that begins at row a, its data at the front
+abbrev pub wordAt : ℕ → Item → ℕ → List KeptRow → Answer (Behind Word)
+wordAt len it a rs = dataAt len a (it .kind) rs >>= λ x. taking (record { letter = it .letter; value = x .value }) (x .rest)

@@ -85,10 +85,18 @@ figures len w z n rs =
     let q = run n 0 0 rs in
     cond (leb (fewest z n) (q .count) && not (digitNext (q .rest))) (taking (restored z n q) (q .rest)) (wrong len w (q .rest))
 
--- ---- the sign right after an address
+-- ---- the sign before a word's digits
 
 abbrev pub isSign : ℕ → Bool
 isSign c = eqb c 43 || eqb c 45
+
+-- what the data of a word begin with
+abbrev pub isFigure : ℕ → Bool
+isFigure c = isDigit c || isSign c
+
+abbrev pub figureNext : List KeptRow → Bool
+figureNext [] = false
+figureNext (r ∷ rs) = isFigure (r .char)
 
 abbrev pub mayStand : Sign → Bool
 mayStand barred = false

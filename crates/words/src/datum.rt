@@ -1,4 +1,4 @@
-// A word: the sign and the figures behind its address, and what they mean by the item's kind.
+// A word's data: the sign and the figures, and what they mean by the item's kind.
 ghost use mathlib.Core.Path.{_≡_};
 ghost use Prim.Native.Nat.{_^_, _<_};
 ghost use lib.ListN.{length};
@@ -6,7 +6,6 @@ ghost use Rattle.shorthand.specs.declared.Kind.{Kind};
 ghost use Rattle.shorthand.specs.Layout.{signOf};
 ghost use Rattle.shorthand.specs.Facts.{Widths};
 ghost use Rattle.words.specs.Figures.{signed};
-ghost use Rattle.rows.specs.declared.Next.the-variants.{Row};
 ghost use Rattle.words.specs.Data.{signedValue, meant, dataAt, wordAt};
 ghost use Rattle.words.specs.Front.{shapeOf};
 ghost use Rattle.words.specs.Front.{rowsAt, signTold, pastSign, meantTold, magnitudeAt, dataTold, wordTold, wordRefusal};
@@ -72,7 +71,7 @@ fn shape_of(kind: Kind) -> Shape
     }
 }
 
-// The sign right after an address, or its absence.
+// The sign before a word's digits, or its absence.
 fn read_sign(tape: &[u8], shape: Shape, front: Next) -> SignRead
     ensures { λ r. ⌜ ((k : Kind) → shape ≡ shapeOf k → signTold (rowsAt (now (tape .entry)) front) r ≡ signed (length (now (tape .entry))) (signOf k) (rowsAt (now (tape .entry)) front)) ⌝ }
 {
@@ -133,7 +132,7 @@ fn with_sign(minus: bool, m: u64) -> i64
     if minus { negative } else { v }
 }
 
-// What the figures of a word mean, whose address stands at a row.
+// What the figures of a word mean that begins at a row.
 fn mean(at: usize, kind: Kind, minus: bool, m: u64) -> Meant
     requires { ⌜ m < 10 ^ 18 ⌝ }
     ensures { λ r. ⌜ meantTold r ≡ meant at kind minus m ⌝ }
@@ -173,7 +172,7 @@ fn read_magnitude(
     }
 }
 
-// The data behind an address: the sign, and then the digits.
+// The data of a word: the sign, and then the digits.
 fn read_data(tape: &[u8], at: usize, kind: Kind, front: Next) -> DataRead
     requires { ⌜ Widths kind ⌝ }
     ensures { λ r. ⌜ dataTold (now (tape .entry)) r ≡ dataAt (length (now (tape .entry))) at kind (rowsAt (now (tape .entry)) front) ⌝ }
@@ -188,14 +187,14 @@ fn read_data(tape: &[u8], at: usize, kind: Kind, front: Next) -> DataRead
     }
 }
 
-// The word of an item whose address is the row at a place, with the rows behind it.
-pub fn read_word(tape: &[u8], item: Item, place: usize, after: usize) -> WordRead
+// The word of an item that begins at a place, its data at the front.
+pub fn read_word(tape: &[u8], item: Item, place: usize, front: Next) -> WordRead
     requires { ⌜ Widths (item .kind) ⌝ }
-    ensures { λ r. ⌜ wordTold (now (tape .entry)) r ≡ wordAt (length (now (tape .entry))) item (rowsAt (now (tape .entry)) (Row (item .letter) place after)) ⌝ }
+    ensures { λ r. ⌜ wordTold (now (tape .entry)) r ≡ wordAt (length (now (tape .entry))) item place (rowsAt (now (tape .entry)) front) ⌝ }
 {
     let kind = item.kind;
     let letter = item.letter;
-    match read_data(tape, place, kind, rows::next_kept(tape, after)) {
+    match read_data(tape, place, kind, front) {
         DataRead::Is(value, rest) => WordRead::Is(Word { letter, value }, rest),
         DataRead::Refused(r) => WordRead::Refused(r),
     }

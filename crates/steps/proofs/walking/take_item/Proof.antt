@@ -42,24 +42,24 @@ returns : tie.Need-returns
 returns c =
     refused-as _ (c .word-refusal .ensures ∙ ap wordRefusal (c .before .enum-told2 .given .1))
     ∙ (ap (reads _ _) (sym (ap (wordTold _) (c .before .enum-told2 .given .1)) ∙ c .before .before .before .read-word .ensures)
-    ∙ ap (takes _ _ _ _) (sym (ap (reachTold _ _) (c .before .before .before .before .before .place .given .1)) ∙ c .before .before .before .before .before .before .before .reach-item .ensures))
+    ∙ ap (takes _ _ _ _) (sym (ap (reachTold _) (c .before .before .before .before .before .place .given .1)) ∙ c .before .before .before .before .before .before .before .reach-item .ensures))
 
 go-on-requires-2 : tie.Need-go-on-requires-2
 go-on-requires-2 c κs = search needs
 
 returns-2 : tie.Need-returns-2
-returns-2 c = ap (takes _ _ _ _) (sym (ap (reachTold _ _) (c .enum-told .given .1)) ∙ c .before .before .reach-item .ensures)
+returns-2 c = ap (takes _ _ _ _) (sym (ap (reachTold _) (c .enum-told .given .1)) ∙ c .before .before .reach-item .ensures)
 
 returns-3 : tie.Need-returns-3
 returns-3 c =
     left-at _ (c .go-on .ensures _)
-    ∙ ap (takes _ _ _ _) (sym (ap (reachTold _ _) (c .before .before .next .given .1)) ∙ c .before .before .before .before .reach-item .ensures)
+    ∙ ap (takes _ _ _ _) (sym (ap (reachTold _) (c .before .before .next .given .1)) ∙ c .before .before .before .before .reach-item .ensures)
 
 returns-4 : tie.Need-returns-4
 returns-4 c =
     left-at _ (c .go-on2 .ensures _)
     ∙ (ap (reads _ _) (sym (ap (wordTold _) (c .before .before .answer .given .1)) ∙ c .before .before .before .before .read-word .ensures)
-    ∙ ap (takes _ _ _ _) (sym (ap (reachTold _ _) (c .before .before .before .before .before .before .place .given .1)) ∙ c .before .before .before .before .before .before .before .before .reach-item .ensures))
+    ∙ ap (takes _ _ _ _) (sym (ap (reachTold _) (c .before .before .before .before .before .before .place .given .1)) ∙ c .before .before .before .before .before .before .before .before .reach-item .ensures))
 
 pub take-item-spec : {M : Type 1} → statement M
 take-item-spec =

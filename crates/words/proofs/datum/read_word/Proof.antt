@@ -1,13 +1,9 @@
--- `words::datum::read_word`: the data are read from the kept rows behind the address.
+-- `words::datum::read_word`: the word is its data with the item's letter.
 use mathlib.Core.Path.{_∙_, sym, ap}
 use borrow.Author.Needs.{needs}
 use Rattle.words.specs.Front.{dataTold}
-use Rattle.words.proofs.Fetched.{fetched}
 use Rattle.words.proofs.datum.read_word.Statement.{statement}
 use Rattle.words.proofs.datum.read_word.Tie as tie
-
-next-kept-requires : tie.Need-next-kept-requires
-next-kept-requires c κs = search needs
 
 read-data-requires : tie.Need-read-data-requires
 read-data-requires c κs = search needs
@@ -19,20 +15,15 @@ enum-known-r : tie.Need-enum-known-r
 enum-known-r c = search needs
 
 returns : tie.Need-returns
-returns c =
-    let read = c .before .before .before in
-    rw (← fetched _ _ _ (read .before .next-kept .ensures), sym (read .read-data .ensures) ∙ ap (dataTold _) (c .before .value .given .1))
+returns c = rw (sym (c .before .before .before .read-data .ensures) ∙ ap (dataTold _) (c .before .value .given .1))
 
 returns-2 : tie.Need-returns-2
-returns-2 c =
-    let read = c .before .before .before in
-    rw (← fetched _ _ _ (read .before .next-kept .ensures), sym (read .read-data .ensures) ∙ ap (dataTold _) (c .before .r .given .1))
+returns-2 c = rw (sym (c .before .before .before .read-data .ensures) ∙ ap (dataTold _) (c .before .r .given .1))
 
 pub read-word-spec : {M : Type 1} → statement M
 read-word-spec =
     tie.close
     (tie.spec
-    next-kept-requires
     read-data-requires
     enum-known-value
     enum-known-r
