@@ -12,9 +12,8 @@ use Rattle.shorthand.specs.declared.Edition.{Edition}
 use Rattle.shorthand.specs.declared.Edition.the-variants.{Iso1057, Iso2539}
 use Rattle.shorthand.specs.declared.Format.{Format}
 use Rattle.shorthand.proofs.Tests.{holds}
-use Rattle.profile.specs.declared.Way.{Way}
 use Rattle.profile.specs.Form.{formOf, Fills, stands, left, Misformed}
-use Rattle.profile.specs.Agreement.{saidIn, wayOf}
+use Rattle.profile.specs.Agreement.{saidIn, under}
 use Rattle.profile.specs.Relation.{ProfileOf, no-profile, agreed, ProfileRefusal, out-of-form, disagrees}
 use Rattle.profile.specs.Answers.{filled, agrees, heldTo, profiled}
 use Rattle.profile.proofs.Filling.{plain, filled-is, filled-fills, refused-misformed, misformed-refused}
@@ -40,14 +39,14 @@ module _ (e : Edition) (f : Format) where
   profiled-is (b ∷ p) r = rw (filled-is (form-plain e) r 0)
 
   -- what is answered has one of these grounds
-  data Ground (p : List ℕ) : Answer Way → Type 0 where
-    taken-so : {w : Way} → ProfileOf e f p w → Ground p (taken w)
+  data Ground (p : List ℕ) : Answer Format → Type 0 where
+    taken-so : {g : Format} → ProfileOf e f p g → Ground p (taken g)
     refused-so : {n k : ℕ} → ProfileRefusal e f p n k → Ground p (refused n k)
 
   held : {p bs : List ℕ} → Fills (formOf e) p bs → Ground p (heldTo f (saidIn e bs))
   held {p} {bs} r = by (agrees f (saidIn e bs)) refl
     where
-      by : (x : Bool) → agrees f (saidIn e bs) ≡ x → Ground p (cond x (taken (wayOf (saidIn e bs))) (refused 23 0))
+      by : (x : Bool) → agrees f (saidIn e bs) ≡ x → Ground p (cond x (taken (under (saidIn e bs) f)) (refused 23 0))
       by true q = taken-so (agreed r (agrees-exactly f (saidIn e bs) .0 (rw q tt)))
       by false q = refused-so (disagrees r (λ a. let t = holds (agrees f (saidIn e bs)) (agrees-exactly f (saidIn e bs) .1 a) in let z : _≡_ {A = ℕ} 0 1 = cc in omega arith))
 
@@ -63,21 +62,21 @@ module _ (e : Edition) (f : Format) where
           refused-so (subst (λ (i : ℕ). ProfileRefusal e f (b ∷ p) i k) (sym (m .0)) (out-of-form (suc-le-suc zero-le) (m .1)))
 
   module _ (p : List ℕ) where
-    taken-profile : {w : Way} → profiled e f p ≡ taken w → ProfileOf e f p w
-    taken-profile {w} q = by (profiled e f p) (ground p) q
+    taken-profile : {g : Format} → profiled e f p ≡ taken g → ProfileOf e f p g
+    taken-profile {g} q = by (profiled e f p) (ground p) q
       where
-        by : (a : Answer Way) → Ground p a → a ≡ taken w → ProfileOf e f p w
-        by _ (taken-so {w = v} h) q = let same : v ≡ w = cc in subst (ProfileOf e f p) same h
+        by : (a : Answer Format) → Ground p a → a ≡ taken g → ProfileOf e f p g
+        by _ (taken-so {g = v} h) q = let same : v ≡ g = cc in subst (ProfileOf e f p) same h
         by _ (refused-so h) q = let z : _≡_ {A = ℕ} 0 1 = cc in absurd (omega arith)
 
     refused-profile : {n k : ℕ} → profiled e f p ≡ refused n k → ProfileRefusal e f p n k
     refused-profile {n} {k} q = by (profiled e f p) (ground p) q
       where
-        by : (a : Answer Way) → Ground p a → a ≡ refused n k → ProfileRefusal e f p n k
+        by : (a : Answer Format) → Ground p a → a ≡ refused n k → ProfileRefusal e f p n k
         by _ (taken-so h) q = let z : _≡_ {A = ℕ} 0 1 = cc in absurd (omega arith)
         by _ (refused-so {n = m} {k = j} h) q = let a : m ≡ n = cc in let b : j ≡ k = cc in rw (← a, ← b) h
 
-  profile-taken : {p : List ℕ} {w : Way} → ProfileOf e f p w → profiled e f p ≡ taken w
+  profile-taken : {p : List ℕ} {g : Format} → ProfileOf e f p g → profiled e f p ≡ taken g
   unfolding profiled
   profile-taken no-profile = refl
   profile-taken (agreed {p = p} {bs = bs} r a) = profiled-is p r ∙ rw (holds (agrees f (saidIn e bs)) (agrees-exactly f (saidIn e bs) .1 a))
@@ -91,13 +90,13 @@ module _ (e : Edition) (f : Format) where
   profile-refused {p} (out-of-form l m) = other-than p l m
   profile-refused {p} (disagrees {bs = bs} r no-agreement) = profiled-is p r ∙ by (agrees f (saidIn e bs)) refl
     where
-      by : (x : Bool) → agrees f (saidIn e bs) ≡ x → cond x (taken (wayOf (saidIn e bs))) (refused 23 0) ≡ refused 23 0
+      by : (x : Bool) → agrees f (saidIn e bs) ≡ x → cond x (taken (under (saidIn e bs) f)) (refused 23 0) ≡ refused 23 0
       by true q = absurd (no-agreement (agrees-exactly f (saidIn e bs) .0 (rw q tt)))
       by false q = refl
 
   -- exactly
-  pub taken-exactly : (p : List ℕ) (w : Way) → (profiled e f p ≡ taken w) ↔ ProfileOf e f p w
-  taken-exactly p w = (taken-profile p, profile-taken)
+  pub taken-exactly : (p : List ℕ) (g : Format) → (profiled e f p ≡ taken g) ↔ ProfileOf e f p g
+  taken-exactly p g = (taken-profile p, profile-taken)
 
   pub refused-exactly : (p : List ℕ) (n k : ℕ) → (profiled e f p ≡ refused n k) ↔ ProfileRefusal e f p n k
   refused-exactly p n k = (refused-profile p, profile-refused)

@@ -4,7 +4,7 @@ use mathlib.Core.Path.{_≡_}
 use mathlib.Core.Logic.{_⊎_, _↔_}
 use mathlib.Core.Bool.{Bool, true, false, _&&_, not, cond}
 use mathlib.Core.List.{List, [], _∷_}
-use lib.Dec.{T, eqb}
+use lib.Dec.{eqb}
 use lib.ListN.{getD}
 use Rattle.rows.specs.Row.{among}
 use Rattle.rows.specs.Passes.{Every}
@@ -14,9 +14,8 @@ use Rattle.shorthand.specs.declared.Kind.{Kind}
 use Rattle.shorthand.specs.declared.Kind.the-variants.{Plain, Speed, Dimension}
 use Rattle.shorthand.specs.declared.Item.{Item}
 use Rattle.shorthand.specs.declared.Format.{Format}
-use Rattle.shorthand.specs.Layout.{itemsOf, incremental}
+use Rattle.shorthand.specs.Layout.{itemsOf, addressed, incremental}
 use Rattle.profile.specs.declared.General.{General}
-use Rattle.profile.specs.declared.Way.{Way}
 
 abbrev pub onlyLater : Edition → ℕ → ℕ
 onlyLater Iso1057 b = 0
@@ -76,10 +75,6 @@ pub record Agrees (f : Format) (g : General) : Type 0 where
 
 -- ---- what it means for whoever reads a tape
 
--- T: no word addresses; B: G90 and G91 choose
-abbrev pub wayOf : General → Way
-wayOf g = record { addresses = not (eqb (g .way) 84); chosen = eqb (g .moves) 66 }
-
--- no profile: as before
-abbrev pub noProfile : Way
-noProfile = record { addresses = true; chosen = false }
+-- T: tabs and no word addresses
+abbrev pub under : General → Format → Format
+under g f = addressed (not (eqb (g .way) 84)) f

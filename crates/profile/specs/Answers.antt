@@ -1,4 +1,4 @@
--- The answer: what a profile says, or 22 with its place, or 23 (document 02, 2/12).
+-- The answer: the Format under a profile, or 22 with its place, or 23 (document 02, 2/12).
 use Prim.Native.Nat.{ℕ, suc}
 use mathlib.Core.Bool.{Bool, true, false, _&&_, _||_, not, cond, Bool·beq}
 use mathlib.Core.List.{List, [], _∷_}
@@ -6,13 +6,15 @@ use lib.Dec.{eqb, leb}
 use Rattle.rows.specs.Answer.{Answer, taken, refused, _>>=_}
 use Rattle.rows.specs.Row.{among}
 use Rattle.shorthand.specs.declared.Edition.{Edition}
+use Rattle.shorthand.specs.declared.Edition.the-variants.{Iso1057, Iso2539}
 use Rattle.shorthand.specs.declared.Item.{Item}
 use Rattle.shorthand.specs.declared.Format.{Format}
 use Rattle.shorthand.specs.Layout.{itemsOf}
+use Rattle.shorthand.specs.Edition.{numberOf}
+use Rattle.shorthand.specs.Parse.{parsed}
 use Rattle.profile.specs.declared.General.{General}
-use Rattle.profile.specs.declared.Way.{Way}
 use Rattle.profile.specs.Form.{Slot, formOf}
-use Rattle.profile.specs.Agreement.{saidIn, isDimension, isIncrement, isRotary, isCounted, howMany, wayOf, noProfile}
+use Rattle.profile.specs.Agreement.{saidIn, isDimension, isIncrement, isRotary, isCounted, howMany, under}
 
 abbrev pub then : ℕ → Answer (List ℕ) → Answer (List ℕ)
 then b a = a >>= λ bs. taken (b ∷ bs)
@@ -51,10 +53,18 @@ agrees f g =
 -- ---- a profile
 
 -- 23 where the detailed shorthand does not agree
-abbrev pub heldTo : Format → General → Answer Way
-heldTo f g = cond (agrees f g) (taken (wayOf g)) (refused 23 0)
+abbrev pub heldTo : Format → General → Answer Format
+heldTo f g = cond (agrees f g) (taken (under g f)) (refused 23 0)
 
--- a profile of no bytes is none
-unfoldable pub profiled : Edition → Format → List ℕ → Answer Way
-profiled e f [] = taken noProfile
+-- the Format under a profile; one of no bytes is none
+unfoldable pub profiled : Edition → Format → List ℕ → Answer Format
+profiled e f [] = taken f
 profiled e f (b ∷ p) = filled (formOf e) 0 (b ∷ p) >>= λ bs. heldTo f (saidIn e bs)
+
+-- the edition with the number n; where there is none, 1 comes before it is asked for
+abbrev pub editionOf : ℕ → Edition
+editionOf n = cond (eqb n (numberOf Iso1057)) Iso1057 Iso2539
+
+-- the Format of an edition, a detailed shorthand and a profile: 1, 2 and 3, and then 22 and 23
+unfoldable pub agreed : ℕ → List ℕ → List ℕ → Answer Format
+agreed n s p = parsed n s >>= λ f. profiled (editionOf n) f p

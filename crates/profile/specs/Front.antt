@@ -3,20 +3,13 @@ use Prim.Native.Nat.{ℕ, suc}
 use mathlib.Core.Bool.{false, _&&_, _||_, not, cond}
 use mathlib.Core.List.{List, [], _∷_}
 use lib.ListN.{length, take, getD}
-use Rattle.rows.specs.Answer.{Answer, taken, refusal, told, _>>=_}
+use Rattle.rows.specs.Answer.{Answer, taken, told, _>>=_}
 use Rattle.shorthand.specs.declared.Edition.{Edition}
 use Rattle.shorthand.specs.declared.Item.{Item}
-use Rattle.profile.specs.declared.Way.{Way}
 use Rattle.profile.specs.declared.Tally.{Tally}
 use Rattle.profile.specs.declared.Filled.{Filled}
-use Rattle.profile.specs.declared.Profiled.{Profiled}
-use Rattle.profile.specs.declared.Profiled.the-variants.{Is, Refused}
 use Rattle.profile.specs.Form.{Slot, one, formOf}
 use Rattle.profile.specs.Agreement.{isDimension, isIncrement, isRotary, isCounted}
-
-abbrev pub profiledTold : Profiled → Answer Way
-profiledTold (Is w) = taken w
-profiledTold (Refused r) = refusal r
 
 -- the form of 1057 has one place fewer than there is room for
 abbrev pub filledTold : Edition → Filled → Answer (List ℕ)

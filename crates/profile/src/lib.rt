@@ -1,8 +1,9 @@
 // The profile: the general shorthand, with which the detailed one must agree.
 ghost use mathlib.Core.Path.{_≡_};
+ghost use Rattle.rows.specs.Answer.{told, void, valueOr};
 ghost use Rattle.shorthand.specs.Facts.{Facts};
-ghost use Rattle.profile.specs.Answers.{profiled};
-ghost use Rattle.profile.specs.Front.{profiledTold};
+ghost use Rattle.shorthand.specs.Layout.{emptyFormat};
+ghost use Rattle.profile.specs.Answers.{profiled, agreed};
 
 mod forms;
 mod items;
@@ -11,30 +12,19 @@ use forms::fill_form;
 use forms::said_in;
 use items::agree;
 use rows::Checked;
-use rows::Refusal;
 use shorthand::Edition;
 use shorthand::Format;
+use shorthand::Parsed;
+use shorthand::refuse;
 
 // What a general shorthand says: A, T or S; R or D, or 0; its three digits; and A, I or B. In 1057 the first and the last are 0.
-pub struct General {
-    pub way: u8,
-    pub rotary: u8,
-    pub first: u8,
-    pub second: u8,
-    pub third: u8,
-    pub moves: u8,
-}
-
-// What a profile means for whoever reads a tape: whether words have addresses, and whether G90 and G91 choose how dimensions are meant.
-pub struct Way {
-    pub addresses: bool,
-    pub chosen: bool,
-}
-
-// A profile that the detailed shorthand agrees with, or its refusal.
-pub enum Profiled {
-    Is(Way),
-    Refused(Refusal),
+struct General {
+    way: u8,
+    rotary: u8,
+    first: u8,
+    second: u8,
+    third: u8,
+    moves: u8,
 }
 
 // The byte at each place of the form, 0 where none stands; or the refusal.
@@ -51,16 +41,17 @@ struct Tally {
     counted: u8,
 }
 
-// What a profile means beside a detailed shorthand. 22 comes before 23 (document 02, 2/12).
-pub fn read_profile(edition: Edition, format: Format, profile: &[u8]) -> Profiled
+// The Format under a profile: the same but without addresses under T, and empty beside a refusal. 22 comes before 23 (document 02, 2/12).
+fn hold_profile(edition: Edition, format: Format, profile: &[u8]) -> Parsed
     requires { ⌜ Facts format ⌝ }
-    ensures { λ r. ⌜ profiledTold r ≡ profiled edition format (now (profile .entry)) ⌝ }
+    ensures outcome { λ r. ⌜ told (r .outcome) ≡ void (profiled edition format (now (profile .entry))) ⌝ }
+    ensures format { λ r. ⌜ r .format ≡ valueOr emptyFormat (profiled edition format (now (profile .entry))) ⌝ }
 {
     if profile.len() == 0 {
-        return Profiled::Is(Way {
-            addresses: true,
-            chosen: false,
-        });
+        return Parsed {
+            outcome: Checked::Clean,
+            format,
+        };
     }
     let filled = fill_form(edition, profile);
     let outcome = filled.outcome;
@@ -68,16 +59,36 @@ pub fn read_profile(edition: Edition, format: Format, profile: &[u8]) -> Profile
         Checked::Clean => {
             let general = said_in(edition, filled);
             if !agree(format, general) {
-                return Profiled::Refused(Refusal {
-                    number: 23,
-                    place: 0,
-                });
+                return refuse(23, 0);
             }
-            Profiled::Is(Way {
-                addresses: general.way != b'T',
-                chosen: general.moves == b'B',
-            })
+            Parsed {
+                outcome: Checked::Clean,
+                format: Format {
+                    addresses: general.way != b'T',
+                    ..format
+                },
+            }
         }
-        Checked::Refused(refusal) => Profiled::Refused(refusal),
+        Checked::Refused(refusal) => refuse(refusal.number, refusal.place),
+    }
+}
+
+// The Format of a detailed shorthand and a profile under an edition. 1, 2 and 3 come before 22 and 23.
+pub fn parse(edition: u32, text: &[u8], profile: &[u8]) -> Parsed
+    ensures outcome { λ r. ⌜ told (r .outcome) ≡ void (agreed edition (now (text .entry)) (now (profile .entry))) ⌝ }
+    ensures format { λ r. ⌜ r .format ≡ valueOr emptyFormat (agreed edition (now (text .entry)) (now (profile .entry))) ⌝ }
+{
+    let parsed = shorthand::parse(edition, text);
+    let format = parsed.format;
+    let outcome = parsed.outcome;
+    match outcome {
+        Checked::Clean => {
+            let known = match edition {
+                1057 => Edition::Iso1057,
+                _ => Edition::Iso2539,
+            };
+            hold_profile(known, format, profile)
+        }
+        Checked::Refused(_) => parsed,
     }
 }
