@@ -12,14 +12,14 @@ use Rattle.shorthand.specs.declared.Missing.{Missing}
 use Rattle.shorthand.specs.declared.Kind.{Kind}
 use Rattle.shorthand.specs.declared.Item.{Item}
 use Rattle.shorthand.specs.declared.Format.{Format}
-use Rattle.shorthand.specs.Layout.{Sign}
+use Rattle.shorthand.specs.Layout.{Way, by-letter, by-both, by-tab, Sign}
 use Rattle.shorthand.specs.Facts.{Fair, more, Facts}
 use Rattle.shorthand.specs.Edition.{letters}
 use Rattle.speeds.proofs.Answers.{speed-read}
 use Rattle.words.specs.declared.Value.{Value}
 use Rattle.words.specs.declared.Word.{Word}
 use Rattle.reading.specs.declared.Block.{Block}
-use Rattle.reading.specs.Relation.{digits, Punched, in-full, front, back, Signed, never, plus, minus, plus-stands, minus-stands, plus-missing, Data, number, speed, dimension, Worded, word, tab, Words, done, out, here, End, lf, cr-lf, skipRows, Blocked, block}
+use Rattle.reading.specs.Relation.{digits, Punched, in-full, front, back, Signed, never, plus, minus, plus-stands, minus-stands, plus-missing, Data, number, speed, dimension, address, Worded, word, tab, Words, done, out, here, End, lf, cr-lf, skipRows, Blocked, block}
 use Rattle.reading.proofs.DigitRows.{Digit, digits-digit, leading-digit, trailing-digit}
 use Rattle.reading.proofs.Ranges.{allFrom, in-range, in-list}
 
@@ -55,18 +55,24 @@ data-bare (number {ds = ds} p) = digits-bare ds (figures-digit p)
 data-bare (speed {k = k} {v = v} c e) = digits-bare (digits k c) (digits-digit k c (speed-read k c v e .short))
 data-bare (dimension {s = s} {ds = ds} g p) = joined s ds (sign-bare g) (digits-bare ds (figures-digit p))
 
-word-bare : {it : Item} {w : Word} {d : List ℕ} → T (bare (it .letter)) → Worded it w d → Bare d
-word-bare l (word d) = (l, data-bare d)
+address-bare : (y : Way) (it : Item) → T (bare (it .letter)) → Bare (address y it)
+address-bare by-letter it l = (l, tt)
+address-bare by-both it l = (l, tt)
+address-bare by-tab it l = tt
 
-tab-bare : (tabs : Bool) → Bare (tab tabs)
-tab-bare true = (tt, tt)
-tab-bare false = tt
+word-bare : {y : Way} {it : Item} {w : Word} {d : List ℕ} → T (bare (it .letter)) → Worded y it w d → Bare d
+word-bare {y} {it} l (word {ds = ds} d) = joined (address y it) ds (address-bare y it l) (data-bare d)
 
-words-bare : {tabs : Bool} {its : List Item} {ws : List Word} {r : List ℕ} → Fair its → Words tabs its ws r → Bare r
+tab-bare : (y : Way) → Bare (tab y)
+tab-bare by-letter = tt
+tab-bare by-both = (tt, tt)
+tab-bare by-tab = (tt, tt)
+
+words-bare : {y : Way} {its : List Item} {ws : List Word} {r : List ℕ} → Fair its → Words y its ws r → Bare r
 words-bare fair done = tt
-words-bare {tabs} (more l w n fair) (out {r = r} h) = joined (tab tabs) r (tab-bare tabs) (words-bare fair h)
-words-bare {tabs} (more l w n fair) (here {it = it} {d = d} {r = r} x h) =
-    joined (tab tabs) (d ++ r) (tab-bare tabs) (joined d r (word-bare (in-list bare letters (it .letter) tt l) x) (words-bare fair h))
+words-bare {y} (more l w n fair) (out {r = r} h) = joined (tab y) r (tab-bare y) (words-bare fair h)
+words-bare {y} (more l w n fair) (here {it = it} {d = d} {r = r} x h) =
+    joined (tab y) (d ++ r) (tab-bare y) (joined d r (word-bare (in-list bare letters (it .letter) tt l) x) (words-bare fair h))
 
 end-bare : {e : List ℕ} → End e → Bare e
 end-bare lf = (tt, tt)

@@ -8,9 +8,10 @@ use lib.ListN.{length, length-append}
 use Rattle.rows.specs.Kept.{KeptRow}
 use Rattle.shorthand.specs.declared.Missing.the-variants.{Nothing}
 use Rattle.shorthand.specs.declared.Format.{Format}
+use Rattle.shorthand.specs.Layout.{wayOf}
 use Rattle.shorthand.specs.Facts.{Facts}
 use Rattle.reading.specs.declared.Block.{Block}
-use Rattle.reading.specs.Relation.{Words, End, lf, cr-lf, skipRows, sequenceRows, Blocked, block, chars}
+use Rattle.reading.specs.Relation.{End, lf, cr-lf, skipRows, sequenceRows, Blocked, block, chars}
 use Rattle.words.specs.declared.Wanted.{Wanted}
 use Rattle.words.specs.Figures.{fronts, behind, isDigit}
 use Rattle.parts.specs.Ends.{ended}
@@ -46,7 +47,7 @@ number-takes len d skip alignment {n} small u apart rs q =
     record { rest = a .rest; takes = rw (m .0, m .1, a .takes); leaves = a .leaves }
 
 -- "/" or none before them
-start-takes : (len d : ℕ) (skip alignment : Bool) {n : ℕ} → n < 10 ^ d → (u : List ℕ) → heads isDigit u ≡ false → (rs : List KeptRow)
+pub start-takes : (len d : ℕ) (skip alignment : Bool) {n : ℕ} → n < 10 ^ d → (u : List ℕ) → heads isDigit u ≡ false → (rs : List KeptRow)
     → chars rs ≡ skipRows skip ++ (sequenceRows d alignment n ++ u) → Takes (startAt len d rs) (record { skip = skip; alignment = alignment; sequence = n }) u
 unfolding startAt
 start-takes len d true alignment small u apart rs q = rw (fronts-heads 47 rs, q) (number-takes len d true alignment small u apart (behind rs) (behind-chars _ _ rs q))
@@ -57,7 +58,7 @@ pub block-takes : (f : Format) → Facts f → {b : Block} {x : List ℕ} → Bl
 unfolding blockAt
 block-takes f facts (block {n} {ws} {r} {e} skip alignment small w end) len s rs q =
     let a = start-takes len (f .sequence) skip alignment small (r ++ (e ++ s)) (words-apart (facts .fair) w end s) rs (q ∙ simp append-assoc) in
-    let b = words-take len (f .dots) s end w (facts .fair) (a .rest) (a .leaves) in
+    let b = words-take len (wayOf f) s end w (facts .fair) (a .rest) (a .leaves) in
     let c = end-takes end len Wanted.End (b .rest) s (b .leaves) in
     (c .0, record { rest = c .1 .rest; takes = rw (a .takes, b .takes, c .1 .takes); leaves = c .1 .leaves })
 

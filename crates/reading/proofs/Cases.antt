@@ -14,6 +14,8 @@ use Rattle.shorthand.specs.Order.{rank, due, after}
 use Rattle.shorthand.specs.Stand.{digitsOf, afterDigits, seen, stand, standN}
 use Rattle.shorthand.specs.Parse.{itemsFrom, parsedIn, parsed}
 use Rattle.shorthand.proofs.Cases.{bytes}
+use Rattle.profile.specs.Answers as profiles
+use Rattle.profile.specs.Answers.{filled, agrees, agreed}
 use Rattle.words.specs.Figures.{run, figures}
 use Rattle.words.specs.Data.{dataAt}
 use Rattle.reading.specs.Parse.{wordsAt, blockAt, blocksAt}
@@ -24,11 +26,15 @@ use Rattle.reading.specs.Answers.{programAt, read, readUnder, counted}
 pub record Case : Type 0 where
   pub edition : ℕ
   pub shorthand : String
+  pub profile : String
   pub tape : String
   pub answer : Answer ℕ
 
 abbrev case : ℕ → String → String → Answer ℕ → Case
-case e s t a = record { edition = e; shorthand = s; tape = t; answer = a }
+case e s t a = record { edition = e; shorthand = s; profile = ""; tape = t; answer = a }
+
+abbrev profiled : ℕ → String → String → String → Answer ℕ → Case
+profiled e s p t a = record { edition = e; shorthand = s; profile = p; tape = t; answer = a }
 
 -- a text as rows: the eighth hole where the others are odd
 abbrev pub rows : String → List ℕ
@@ -86,6 +92,30 @@ without =
     ∷ case 2539 "N3*" "%\nN001\n:002\n/N003\n" (taken 3)
     ∷ []
 
-pub counts : map (λ c. counted (c .edition) (bytes (c .shorthand)) (rows (c .tape))) (withTabs ++ without) ≡ map (λ c. c .answer) (withTabs ++ without)
-unfolding ones entry lowest scan judged keptFrom meaning speedFor rank due after digitsOf afterDigits seen stand standN itemsFrom parsedIn parsed run figures dataAt wordsAt startAt blockAt headAt blocksAt programAt read readUnder
+-- tabs and no addresses, in 2539
+abbrev bare : String → Answer ℕ → Case
+bare t a = profiled 2539 "N3.G2.X+042.F3*" "LTM110A" t a
+
+abbrev withoutAddresses : List Case
+withoutAddresses =
+    bare "%\nN001\t01\t5\n" (taken 1)
+    ∷ bare "%\nN002\t\t-0\n:003\t\t\n" (taken 2)
+    ∷ bare "%\nN004\tG01\n" (refused 10 7)
+    ∷ bare "%\nN005\t+01\n" (refused 12 7)
+    ∷ bare "%\nN006\t\t+\n" (refused 11 9)
+    ∷ bare "%\nN007\t\t0000012\n" (refused 11 14)
+    ∷ bare "%\nN008\t\t\t605\n" (refused 13 9)
+    ∷ bare "%\nN009\t\t\t6055\n" (refused 11 12)
+    ∷ bare "%\nN010\t\t\t\t\n" (refused 10 9)
+    ∷ bare "%\nN011\t\t5" (refused 14 9)
+    ∷ profiled 2539 "N3.X+042*" "LTM110AA" "" (refused 22 7)
+    ∷ profiled 2539 "N3.X+042*" "LAM110A" "" (refused 23 0)
+    ∷ profiled 1057 "N3.X+042*" "LTM110A" "" (refused 3 2)
+    ∷ []
+
+abbrev cases : List Case
+cases = withTabs ++ without ++ withoutAddresses
+
+pub counts : map (λ c. counted (c .edition) (bytes (c .shorthand)) (bytes (c .profile)) (rows (c .tape))) cases ≡ map (λ c. c .answer) cases
+unfolding ones entry lowest scan judged keptFrom meaning speedFor rank due after digitsOf afterDigits seen stand standN itemsFrom parsedIn parsed filled agrees profiles.profiled agreed run figures dataAt wordsAt startAt blockAt headAt blocksAt programAt read readUnder
 counts = refl

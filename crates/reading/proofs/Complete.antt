@@ -22,7 +22,7 @@ use Rattle.reading.proofs.BlockTakes.{end-takes, block-takes, block-som
 abbrev Entries : Answer (List Entry) → List Block → Type 0
 Entries a bs = (es : List Entry) × (a ≡ taken es) × (map (λ e. e .block) es ≡ bs)
 
-rows-length : (rs : List KeptRow) (x : List ℕ) → chars rs ≡ x → length rs ≡ length x
+pub rows-length : (rs : List KeptRow) (x : List ℕ) → chars rs ≡ x → length rs ≡ length x
 rows-length rs x e = sym (length-map rs (λ r. r .char)) ∙ ap length e
 
 module _ (f : Format) (facts : Facts f) (len : ℕ) where

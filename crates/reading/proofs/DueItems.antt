@@ -9,7 +9,7 @@ use lib.ListN.{drop}
 use Rattle.rows.specs.Answer.{Answer}
 use Rattle.rows.specs.Kept.{KeptRow}
 use Rattle.shorthand.specs.declared.Format.{Format}
-use Rattle.shorthand.specs.Layout.{itemsOf}
+use Rattle.shorthand.specs.Layout.{itemsOf, wayOf}
 use Rattle.shorthand.specs.Facts.{Facts}
 use Rattle.words.specs.declared.Word.{Word}
 use Rattle.words.specs.Figures.{Behind, fronts}
@@ -20,10 +20,10 @@ use Rattle.reading.proofs.ItemSteps.{words-turn, words-over}
 
 module _ (len : ℕ) (f : Format) (h : Facts f) (leads : List ℕ) (g : Leads f leads) (rs : List KeptRow) where
   abbrev wordsFrom : ℕ → Answer (Behind (List Word))
-  wordsFrom k = wordsAt len (f .dots) (drop k (itemsOf f)) rs
+  wordsFrom k = wordsAt len (wayOf f) (drop k (itemsOf f)) rs
 
   -- an item whose letter is not the front, without tabs
-  pass : (k : ℕ) → k < f .count → (d : Bool) → f .dots ≡ d → (d ≡ true → ⊥) → fronts (letterAt f k) rs ≡ false → out rs ≡ standing (f .dots) (letterAt f k) rs
+  pass : (k : ℕ) → k < f .count → (d : Bool) → f .dots ≡ d → (d ≡ true → ⊥) → fronts (letterAt f k) rs ≡ false → out rs ≡ standing (wayOf f) (letterAt f k) rs
   pass k l true e n q = absurd (n refl)
   pass k l false e n q = rw (e, q)
 

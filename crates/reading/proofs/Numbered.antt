@@ -1,7 +1,7 @@
--- What the entry points answer, by what the shorthand and the four stages answered.
-use mathlib.Core.Path.{_≡_, refl, sym, ap, _∙_, subst}
+-- What the entry points answer, by what the shorthand, the profile and the four stages answered.
+use mathlib.Core.Path.{_≡_, refl, sym, ap, _∙_}
 use mathlib.Core.Bool.{Bool, true, false, cond}
-use mathlib.Core.List.{List, [], _∷_}
+use mathlib.Core.List.{List, []}
 use Prim.Native.Nat.{ℕ, _≤_}
 use native.Mathlib.Omega.{arith}
 use lib.Dec.{ltb}
@@ -12,9 +12,9 @@ use Rattle.rows.specs.Stages.{judged}
 use Rattle.rows.specs.Kept.{kept}
 use Rattle.shorthand.specs.declared.Format.{Format}
 use Rattle.shorthand.specs.Layout.{emptyFormat}
-use Rattle.shorthand.specs.Parse.{parsed}
 use Rattle.shorthand.specs.Facts.{Facts}
-use Rattle.shorthand.proofs.Fairness.{accepted-facts}
+use Rattle.profile.specs.Answers.{agreed}
+use Rattle.profile.proofs.Settling.{agreed-facts}
 use Rattle.reading.specs.Parse.{Entry}
 use Rattle.reading.specs.Answers.{nowhere, nth, programAt, read, readUnder, entryNumbered, sizeOf}
 use Rattle.reading.specs.Front.{hasBlock}
@@ -30,17 +30,17 @@ pub refused-void : {A : Type 0} (a : Answer A) (n p : ℕ) → void a ≡ refuse
 refused-void (taken x) n p e = let z : _≡_ {A = ℕ} 0 1 = cc in absurd (omega arith)
 refused-void (refused m q) n p e = let a : m ≡ n = cc in let b : q ≡ p = cc in rw (a, b)
 
-module _ (e : ℕ) (s : List ℕ) where
-  pub parsed-facts : (f : Format) → f ≡ valueOr emptyFormat (parsed e s) → void (parsed e s) ≡ taken tt → Facts f
-  parsed-facts f q h = accepted-facts e s f (taken-value emptyFormat (parsed e s) h ∙ ap taken (sym q))
+module _ (e : ℕ) (s p : List ℕ) where
+  pub settled-facts : (f : Format) → f ≡ valueOr emptyFormat (agreed e s p) → void (agreed e s p) ≡ taken tt → Facts f
+  settled-facts f q h = agreed-facts e s p f (taken-value emptyFormat (agreed e s p) h ∙ ap taken (sym q))
 
-  pub under : (t : List ℕ) (f : Format) → f ≡ valueOr emptyFormat (parsed e s) → void (parsed e s) ≡ taken tt → readUnder e s t ≡ read f t
+  pub under : (t : List ℕ) (f : Format) → f ≡ valueOr emptyFormat (agreed e s p) → void (agreed e s p) ≡ taken tt → readUnder e s p t ≡ read f t
   unfolding readUnder
-  under t f q h = rw (taken-value emptyFormat (parsed e s) h, q)
+  under t f q h = rw (taken-value emptyFormat (agreed e s p) h, q)
 
-  pub under-refused : (t : List ℕ) (n p : ℕ) → void (parsed e s) ≡ refused n p → readUnder e s t ≡ refused n p
+  pub under-refused : (t : List ℕ) (n k : ℕ) → void (agreed e s p) ≡ refused n k → readUnder e s p t ≡ refused n k
   unfolding readUnder
-  under-refused t n p h = rw (refused-void (parsed e s) n p h)
+  under-refused t n k h = rw (refused-void (agreed e s p) n k h)
 
 -- ---- block n
 
@@ -79,11 +79,11 @@ module _ {A B : Type 0} (g : A → B) where
   place-map (taken x) = refl
   place-map (refused n p) = refl
 
-module _ (e : ℕ) (s t : List ℕ) (n : ℕ) (a : Answer (List Entry)) (q : readUnder e s t ≡ a) where
-  pub asked-outcome : hasBlock n (sizeOf a) ≡ void (entryNumbered e s t n)
+module _ (e : ℕ) (s p t : List ℕ) (n : ℕ) (a : Answer (List Entry)) (q : readUnder e s p t ≡ a) where
+  pub asked-outcome : hasBlock n (sizeOf a) ≡ void (entryNumbered e s p t n)
   asked-outcome = rw q (sym (entry-outcome n a))
 
-  pub asked-value : getD (valueOr [] a) n nowhere ≡ valueOr nowhere (entryNumbered e s t n)
+  pub asked-value : getD (valueOr [] a) n nowhere ≡ valueOr nowhere (entryNumbered e s p t n)
   asked-value = rw q (sym (entry-value n a))
 
 -- ---- the rows of block n stand within the tape
@@ -104,10 +104,10 @@ unfolding read
 read-within t f n (refused m p) e = rw e (omega arith, omega arith)
 read-within t f n (taken u) e = rw e (program-within t f n (programAt (length t) f (kept t)) refl)
 
-pub entry-within : (e : ℕ) (s t : List ℕ) (n : ℕ) → Within t (valueOr nowhere (entryNumbered e s t n))
+pub entry-within : (e : ℕ) (s p t : List ℕ) (n : ℕ) → Within t (valueOr nowhere (entryNumbered e s p t n))
 unfolding readUnder
-entry-within e s t n = by (parsed e s) refl
+entry-within e s p t n = by (agreed e s p) refl
   where
-    by : (a : Answer Format) → parsed e s ≡ a → Within t (valueOr nowhere ((a >>= λ f. read f t) >>= nth n))
+    by : (a : Answer Format) → agreed e s p ≡ a → Within t (valueOr nowhere ((a >>= λ f. read f t) >>= nth n))
     by (refused m p) q = (omega arith, omega arith)
     by (taken f) q = read-within t f n (judged t) refl

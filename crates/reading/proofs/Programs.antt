@@ -8,16 +8,11 @@ use lib.ListN.{length}
 use Rattle.rows.specs.Answer.{Answer, taken, refused, _>>=_, _>>_}
 use Rattle.rows.specs.Stages.{judged}
 use Rattle.rows.specs.Kept.{kept}
-use Rattle.rows.specs.Passes.{Passes}
 use Rattle.rows.proofs.Judged.{passes-clean, clean-passes}
-use Rattle.shorthand.specs.declared.Format.{Format}
-use Rattle.shorthand.specs.Parse.{parsed}
-use Rattle.shorthand.specs.Lawful.{Lawful}
-use Rattle.shorthand.specs.Spell.{spell}
-use Rattle.shorthand.proofs.Accepted as shorthand
-use Rattle.shorthand.proofs.Fairness.{lawful-facts}
+use Rattle.profile.specs.Answers.{agreed}
+use Rattle.profile.proofs.Settling.{settled-exactly, settled-facts}
 use Rattle.reading.specs.declared.Block.{Block}
-use Rattle.reading.specs.Relation.{TapeOf, Program, chars}
+use Rattle.reading.specs.Relation.{TapeOf}
 use Rattle.reading.specs.Parse.{Entry}
 use Rattle.reading.specs.Answers.{programAt, read, readUnder}
 use Rattle.reading.proofs.Complete.{complete}
@@ -36,32 +31,30 @@ both-taken : {B : Type 0} (a : Answer (Unit {0})) (b : Answer B) (x : B) → (a 
 both-taken (taken u) b x e = (refl, e)
 both-taken (refused n p) b x e = let z : _≡_ {A = ℕ} 0 1 = cc in absurd (omega arith)
 
-module _ (e : ℕ) (s t : List ℕ) where
+module _ (e : ℕ) (s p t : List ℕ) where
   -- complete: a program that stands as the tape is the answer
-  pub tape-read : (bs : List Block) → TapeOf e s bs t → (es : List Entry) × (readUnder e s t ≡ taken es) × (blocksOf es ≡ bs)
+  pub tape-read : (bs : List Block) → TapeOf e s p bs t → (es : List Entry) × (readUnder e s p t ≡ taken es) × (blocksOf es ≡ bs)
   unfolding readUnder read
   tape-read bs h =
-      let p : parsed e s ≡ taken (h .format) = ap (parsed e) (h .spelt) ∙ shorthand.complete (h .lawful) in
-      let c = complete (h .format) (lawful-facts (h .lawful)) bs (length t) (kept t) (h .stands) in
-      (c .0, rw (p, passes-clean t (h .passes)) (c .1), c .2)
+      let a = settled-exactly e s p (h .format) .1 (h .settled) in
+      let c = complete (h .format) (settled-facts (h .settled)) bs (length t) (kept t) (h .stands) in
+      (c .0, rw (a, passes-clean t (h .passes)) (c .1), c .2)
 
   -- sound: what is answered stands as the tape
-  pub read-tape : (es : List Entry) → readUnder e s t ≡ taken es → TapeOf e s (blocksOf es) t
+  pub read-tape : (es : List Entry) → readUnder e s p t ≡ taken es → TapeOf e s p (blocksOf es) t
   unfolding readUnder read
   read-tape es q =
-      let p = from-taken (parsed e s) (λ f. read f t) es q in
-      let l = shorthand.sound e s (p .0) (p .1) in
-      let j = both-taken (judged t) (programAt (length t) (p .0) (kept t)) es (p .2) in
+      let a = from-taken (agreed e s p) (λ f. read f t) es q in
+      let j = both-taken (judged t) (programAt (length t) (a .0) (kept t)) es (a .2) in
       record {
-        format = p .0;
-        lawful = l .1;
-        spelt = l .0;
+        format = a .0;
+        settled = settled-exactly e s p (a .0) .0 (a .1);
         passes = clean-passes t (j .0);
-        stands = sound (p .0) (length t) (kept t) es (j .1);
+        stands = sound (a .0) (length t) (kept t) es (j .1);
       }
 
   -- two programs never share a tape
-  pub one-program : (bs cs : List Block) → TapeOf e s bs t → TapeOf e s cs t → bs ≡ cs
+  pub one-program : (bs cs : List Block) → TapeOf e s p bs t → TapeOf e s p cs t → bs ≡ cs
   one-program bs cs g h =
       let a = tape-read bs g in
       let b = tape-read cs h in
@@ -69,5 +62,5 @@ module _ (e : ℕ) (s t : List ℕ) where
       sym (a .2) ∙ ap blocksOf same ∙ b .2
 
   -- accepted exactly when it is a tape of some program
-  pub accepted : ((es : List Entry) × (readUnder e s t ≡ taken es)) ↔ ((bs : List Block) × TapeOf e s bs t)
+  pub accepted : ((es : List Entry) × (readUnder e s p t ≡ taken es)) ↔ ((bs : List Block) × TapeOf e s p bs t)
   accepted = (λ r. (blocksOf (r .0), read-tape (r .0) (r .1)), λ h. let a = tape-read (h .0) (h .1) in (a .0, a .1))

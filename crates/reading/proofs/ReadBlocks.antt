@@ -14,7 +14,7 @@ use Rattle.rows.specs.Kept.{KeptRow}
 use Rattle.rows.specs.Passes.{Every}
 use Rattle.shorthand.specs.declared.Missing.the-variants.{Nothing}
 use Rattle.shorthand.specs.declared.Format.{Format}
-use Rattle.shorthand.specs.Layout.{itemsOf}
+use Rattle.shorthand.specs.Layout.{itemsOf, wayOf}
 use Rattle.reading.specs.declared.Block.{Block}
 use Rattle.reading.specs.Relation.{End, lf, cr-lf, skipRows, sequenceRows, Blocked, block, chars}
 use Rattle.parts.specs.declared.Begun.{Begun}
@@ -107,7 +107,7 @@ module _ {Q : ℕ → ℕ → Type 0} {P : ℕ → Type 0} {len : ℕ} (t : Tabl
   unfolding blockAt
   block-read rs all =
       reads-then all (start-read t (f .sequence) rs all) λ b r all₁ p.
-      reads-then all₁ (words-read t (f .dots) (itemsOf f) says (b .rest) all₁) λ ws u all₂ h.
+      reads-then all₁ (words-read t (wayOf f) (itemsOf f) says (b .rest) all₁) λ ws u all₂ h.
       reads-then all₂ (ended-read t Wanted.End (ws .rest) all₂) λ x s all₃ z.
       reads-done (
         rw (append-nil s, chars-append r (u ++ s), chars-append u s, p .1, append-assoc (skipRows (b .value .skip)) _ (chars u ++ chars s))

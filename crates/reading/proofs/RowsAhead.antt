@@ -11,7 +11,7 @@ use borrow.Author.Tests.{le-leb, ne-eqb}
 use Rattle.rows.specs.Answer.{Answer, taken}
 use Rattle.rows.specs.Kept.{KeptRow}
 use Rattle.rows.specs.Passes.{Every}
-use Rattle.words.specs.Figures.{Behind, fronts, behind, isDigit, digitNext, isSign, run}
+use Rattle.words.specs.Figures.{Behind, fronts, behind, isDigit, digitNext, isSign, isFigure, figureNext, run}
 use Rattle.reading.specs.Relation.{chars}
 use Rattle.reading.proofs.DigitRows.{Digit, worth}
 
@@ -27,6 +27,10 @@ fronts-heads c (r ∷ rs) = refl
 pub digit-heads : (rs : List KeptRow) → digitNext rs ≡ heads isDigit (chars rs)
 digit-heads [] = refl
 digit-heads (r ∷ rs) = refl
+
+pub figure-heads : (rs : List KeptRow) → figureNext rs ≡ heads isFigure (chars rs)
+figure-heads [] = refl
+figure-heads (r ∷ rs) = refl
 
 pub behind-chars : (c : ℕ) (u : List ℕ) (rs : List KeptRow) → chars rs ≡ c ∷ u → chars (behind rs) ≡ u
 behind-chars c u [] e = cc

@@ -2,8 +2,8 @@
 use Prim.Native.Nat.{ℕ, _<_}
 use lib.ListN.{length}
 use mathlib.Core.Path.{_≡_}
-use mathlib.Core.Bool.{Bool, true, false}
-use mathlib.Core.List.{List, [], _∷_, map}
+use mathlib.Core.Bool.{true}
+use mathlib.Core.List.{List, [], _∷_, _++_, map}
 use Rattle.rows.specs.Answer.{Answer, taken, refused}
 use Rattle.rows.specs.Kept.{KeptRow}
 use Rattle.rows.specs.Passes.{Every}
@@ -12,13 +12,13 @@ use Rattle.shorthand.specs.declared.Kind.{Kind}
 use Rattle.shorthand.specs.declared.Kind.the-variants.{Plain}
 use Rattle.shorthand.specs.declared.Item.{Item}
 use Rattle.shorthand.specs.declared.Format.{Format}
-use Rattle.shorthand.specs.Layout.{itemsOf}
-use Rattle.reading.specs.Relation.{Worded, End, Blocks, none, more, Program, program, chars}
+use Rattle.shorthand.specs.Layout.{itemsOf, Way}
+use Rattle.reading.specs.Relation.{address, Worded, End, Blocks, none, more, Program, program, chars}
 use Rattle.words.specs.declared.Wanted.{Wanted}
-use Rattle.words.specs.Figures.{Behind, fronts}
+use Rattle.words.specs.Figures.{Behind}
 use Rattle.parts.specs.Ends.{closeAt}
 use Rattle.words.specs.Data.{wordAt}
-use Rattle.parts.specs.Items.{steps}
+use Rattle.parts.specs.Items.{steps, begins}
 use Rattle.reading.specs.Parse.{BlockRead, blockAt, Entry}
 use Rattle.parts.specs.Ends.{headAt}
 use Rattle.reading.specs.Answers.{programAt}
@@ -28,7 +28,7 @@ use Rattle.parts.specs.Starts.{startAt}
 use Rattle.rows.proofs.Outcomes.{Holds, refusal, value, of-taken}
 use Rattle.reading.proofs.Outcomes.{Reads, Table, Placed, no-row, next-row, chars-append, reads-map}
 use Rattle.reading.proofs.ReadData.{Sayable}
-use Rattle.reading.proofs.ReadWords.{Stepped, steps-over, word-read}
+use Rattle.reading.proofs.ReadWords.{Stepped, steps-over, Addressed, address-over, word-read}
 use Rattle.reading.proofs.ReadBlocks.{Last, ended-read, start-some, start-read, BlockRows, block-read, HeadRows, head-read, Entries, ProgramRows, program-read}
 
 -- ---- where nothing is asked of refusals
@@ -75,11 +75,14 @@ module _ (len : ℕ) (rs : List KeptRow) where
   pub start-rows : (digits : ℕ) (x : Behind Begun) → startAt len digits rs ≡ taken x → Reads (λ b s. 0 < length s) rs x
   start-rows digits x e = of-taken (reads-map (start-some digits) (start-read any-table digits rs (any-rows rs))) e
 
-  pub step-rows : (tabs : Bool) → steps tabs rs ≡ true → Stepped AnyPlace tabs rs
-  step-rows tabs e = steps-over tabs rs (any-rows rs) e
+  pub step-rows : (y : Way) → steps y rs ≡ true → Stepped AnyPlace y rs
+  step-rows y e = steps-over y rs (any-rows rs) e
 
-  pub word-rows : (it : Item) (x : Behind Word) → fronts (it .letter) rs ≡ true → wordAt len it rs ≡ taken x → Reads (λ w s. Worded it w (chars s)) rs x
-  word-rows it x f e = of-taken (word-read any-table it (any-kind (it .kind)) rs (any-rows rs) f) e
+  pub address-rows : (y : Way) (it : Item) → begins y (it .letter) rs ≡ true → Addressed AnyPlace y it rs
+  address-rows y it e = address-over y it rs (any-rows rs) e
+
+  pub word-rows : (it : Item) (a : ℕ) (x : Behind Word) → wordAt len it a rs ≡ taken x → Reads (λ w s. (y : Way) → Worded y it w (address y it ++ chars s)) rs x
+  word-rows it a x e = of-taken (word-read any-table it (any-kind (it .kind)) a tt rs (any-rows rs)) e
 
   pub end-rows : (x : Behind ℕ) → closeAt len rs ≡ taken x → Reads (λ p s. End (chars s) × Last p s) rs x
   end-rows x e = of-taken (ended-read any-table Wanted.End rs (any-rows rs)) e

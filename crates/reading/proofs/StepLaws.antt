@@ -12,11 +12,11 @@ use Rattle.rows.specs.Answer.{Answer, taken, refused, refusal, _>>=_}
 use Rattle.rows.specs.Kept.{KeptRow}
 use Rattle.shorthand.specs.declared.Item.{Item}
 use Rattle.shorthand.specs.declared.Format.{Format}
-use Rattle.shorthand.specs.Layout.{itemsOf}
+use Rattle.shorthand.specs.Layout.{itemsOf, wayOf}
 use Rattle.shorthand.specs.Facts.{Facts}
 use Rattle.shorthand.proofs.FormatItems.{widths-at}
 use Rattle.words.specs.declared.Word.{Word}
-use Rattle.words.specs.Figures.{Behind, taking, fronts}
+use Rattle.words.specs.Figures.{Behind, taking, frontPlace}
 use Rattle.words.specs.Data.{wordAt}
 use Rattle.parts.specs.declared.Begun.{Begun}
 use Rattle.parts.specs.declared.Rules.{Rules}
@@ -27,18 +27,18 @@ use Rattle.steps.specs.declared.Event.{Event}
 use Rattle.steps.specs.declared.Event.the-variants.{Finished, Opened, Out, Read, Closed}
 use Rattle.parts.specs.Ends.{closeAt}
 use Rattle.parts.specs.Starts.{startAt}
-use Rattle.parts.specs.Items.{steps, stepped, Standing, stops, out, at, standing, itemAt, Leads, dueAt}
+use Rattle.parts.specs.Items.{steps, stepped, begins, pastAddress, Standing, stops, out, at, standing, itemAt, Leads, dueAt}
 use Rattle.parts.specs.Items.{rulesOf}
 use Rattle.steps.specs.Steps.{Spot, Moved, between, ending, going, opens, openStep, reads, takes, closesBy, stepBy, stepAt, Ready}
 use Rattle.steps.specs.Front.{spotTold}
 use Rattle.parts.proofs.Leading.{due-on}
-use Rattle.reading.specs.Parse.{consWord, wordsAt, built, blockAt, Entry, entry, blocksAt}
+use Rattle.reading.specs.Parse.{consWord, resumed, wordsAt, built, blockAt, Entry, entry, blocksAt}
 use Rattle.reading.specs.Front.{Rising}
 use Rattle.reading.proofs.BlockWalk.{before, before-none, before-more}
 use Rattle.reading.proofs.DueItems.{from-due}
-use Rattle.reading.proofs.ItemSteps.{words-turn, words-over, resumed}
+use Rattle.reading.proofs.ItemSteps.{words-turn, words-over}
 use Rattle.reading.proofs.Places.{rising-rest, last-rising}
-use Rattle.reading.proofs.Sound.{start-rows, step-rows, word-rows, end-rows}
+use Rattle.reading.proofs.Sound.{start-rows, step-rows, address-rows, word-rows, end-rows}
 
 -- ---- what is still to come
 
@@ -48,7 +48,7 @@ entryOf from b ws lf = record { block = built b ws; from = from; to = lf + 1 }
 
 module _ (n : ℕ) (f : Format) where
   abbrev wordsFrom : ℕ → List KeptRow → Answer (Behind (List Word))
-  wordsFrom k rs = wordsAt n (f .dots) (drop k (itemsOf f)) rs
+  wordsFrom k rs = wordsAt n (wayOf f) (drop k (itemsOf f)) rs
 
   -- its end, and then at most so many blocks
   abbrev finish : ℕ → ℕ → Begun → List Word → List KeptRow → Answer (List Entry)
@@ -301,8 +301,8 @@ module _ (n : ℕ) (f : Format) (most first : ℕ) (start : List KeptRow) where
           by (r ∷ u) e = fuelled r u e fuel refl (spare (rw e (omega arith)))
 
       -- before an item, by how it stands
-      step-take : From Before → To Before (takes n (itemAt f k) onward (record { stage = Before; item = k; rows = rs }) (standing (f .dots) (itemAt f k .letter) rs))
-      step-take g = by (steps (f .dots) rs) refl (fronts (it .letter) (stepped (f .dots) rs)) refl
+      step-take : From Before → To Before (takes n (itemAt f k) onward (record { stage = Before; item = k; rows = rs }) (standing (wayOf f) (itemAt f k .letter) rs))
+      step-take g = by (steps (wayOf f) rs) refl (begins (wayOf f) (it .letter) (stepped (wayOf f) rs)) refl
         where
           it : Item
           it = itemAt f k
@@ -310,7 +310,7 @@ module _ (n : ℕ) (f : Format) (most first : ℕ) (start : List KeptRow) where
           here : Spot
           here = record { stage = Before; item = k; rows = rs }
 
-          turn : (s : Standing) → s ≡ standing (f .dots) (it .letter) rs → all ≡ before done (resumed n (f .dots) it (drop (k + 1) (itemsOf f)) rs s >>= further n f fuel from b ws)
+          turn : (s : Standing) → s ≡ standing (wayOf f) (it .letter) rs → all ≡ before done (resumed n it rs (wordsAt n (wayOf f) (drop (k + 1) (itemsOf f))) s >>= further n f fuel from b ws)
           turn s e = g .come ∙ ap (λ a. before done (a >>= further n f fuel from b ws)) (words-turn n f h rs k (g .fits .1) s e)
 
           -- the rows behind some of these
@@ -320,21 +320,24 @@ module _ (n : ℕ) (f : Format) (most first : ℕ) (start : List KeptRow) where
           shorter : (took rest : List KeptRow) → rs ≡ took ++ rest → length start ≤ most → length rest ≤ fuel
           shorter took rest split l = let size : length rs ≡ length took + length rest = ap length split ∙ length-append took rest in omega (arith, g .enough l, size)
 
-          word : (u : List KeptRow) (took : List KeptRow) → rs ≡ took ++ u → at u ≡ standing (f .dots) (it .letter) rs → fronts (it .letter) u ≡ true
-              → (a : Answer (Behind Word)) → wordAt n it u ≡ a → To Before (reads onward here a)
-          word u took split e o (taken x) q =
-              let t = word-rows n u it x o q in
+          word : (first : ℕ) (u : List KeptRow) (took : List KeptRow) → rs ≡ took ++ u → at first u ≡ standing (wayOf f) (it .letter) rs
+              → (a : Answer (Behind Word)) → wordAt n it first u ≡ a → To Before (reads onward here a)
+          word first u took split e (taken x) q =
+              let t = word-rows n u it first x q in
               let all-rows : rs ≡ (took ++ t .took) ++ x .rest = split ∙ ap (λ v. took ++ v) (t .split) ∙ sym (append-assoc took (t .took) (x .rest)) in
               let longer : length (ws ++ (x .value ∷ [])) ≡ length ws + 1 = length-append ws (x .value ∷ []) in
               let w = lands done fuel from b (ws ++ (x .value ∷ [])) (k + 1) (x .rest)
-              (turn (at u) e ∙ rw q (ap (before done) (word-on n f fuel from b ws (x .value) (wordsFrom n f (k + 1) (x .rest)))))
+              (turn (at first u) e ∙ rw q (ap (before done) (word-on n f fuel from b ws (x .value) (wordsFrom n f (k + 1) (x .rest)))))
               (rises (took ++ t .took) (x .rest) all-rows) (omega (arith, g .within)) (omega (arith, longer, g .fits .0)) (omega (arith, longer, g .fits))
               (g .room) (shorter (took ++ t .took) (x .rest) all-rows) (g .below) _ refl in
               (record { walk = w .0; nearer = omega (arith, w .1, g .within) }, omega (arith, g .fits), refl)
-          word u took split e o (refused m p) q = turn (at u) e ∙ rw q
+          word first u took split e (refused m p) q = turn (at first u) e ∙ rw q
 
-          by : (x : Bool) → steps (f .dots) rs ≡ x → (y : Bool) → fronts (it .letter) (stepped (f .dots) rs) ≡ y
-              → To Before (takes n it onward here (cond x (cond y (at (stepped (f .dots) rs)) (out (stepped (f .dots) rs))) stops))
+          after : List KeptRow
+          after = stepped (wayOf f) rs
+
+          by : (x : Bool) → steps (wayOf f) rs ≡ x → (y : Bool) → begins (wayOf f) (it .letter) (stepped (wayOf f) rs) ≡ y
+              → To Before (takes n it onward here (cond x (cond y (at (frontPlace after) (pastAddress (wayOf f) after)) (out after)) stops))
           by false p y q =
               record {
                 walk = record {
@@ -349,14 +352,16 @@ module _ (n : ℕ) (f : Format) (most first : ℕ) (start : List KeptRow) where
                 nearer = omega (arith, g .within);
               }
           by true p false q =
-              let t = step-rows n rs (f .dots) p in
-              let w = lands done fuel from b ws (k + 1) (stepped (f .dots) rs) (turn (out (stepped (f .dots) rs)) (rw (p, q)))
-              (rises (t .took) (stepped (f .dots) rs) (t .split)) (omega (arith, g .within)) (omega (arith, g .fits .0)) (omega (arith, g .fits))
-              (g .room) (shorter (t .took) (stepped (f .dots) rs) (t .split)) (g .below) _ refl in
+              let t = step-rows n rs (wayOf f) p in
+              let w = lands done fuel from b ws (k + 1) (stepped (wayOf f) rs) (turn (out (stepped (wayOf f) rs)) (rw (p, q)))
+              (rises (t .took) (stepped (wayOf f) rs) (t .split)) (omega (arith, g .within)) (omega (arith, g .fits .0)) (omega (arith, g .fits))
+              (g .room) (shorter (t .took) (stepped (wayOf f) rs) (t .split)) (g .below) _ refl in
               record { walk = w .0; nearer = omega (arith, w .1, g .within) }
           by true p true q =
-              let t = step-rows n rs (f .dots) p in
-              word (stepped (f .dots) rs) (t .took) (t .split) (rw (p, q)) q (wordAt n it (stepped (f .dots) rs)) refl
+              let t = step-rows n rs (wayOf f) p in
+              let b = address-rows n after (wayOf f) it q in
+              let split = t .split ∙ ap (λ v. t .took ++ v) (b .split) ∙ sym (append-assoc (t .took) (b .took) (pastAddress (wayOf f) after)) in
+              word (frontPlace after) (pastAddress (wayOf f) after) (t .took ++ b .took) split (rw (p, q)) (wordAt n it (frontPlace after) (pastAddress (wayOf f) after)) refl
 
       -- behind the items
       step-close : From Ending → To Ending (closesBy (record { stage = Ending; item = k; rows = rs }) (closeAt n rs))

@@ -1,4 +1,4 @@
--- A word that stands as its item allows is read: its figures, its sign, its data, its address.
+-- A word that stands as its item allows is read: its figures, its sign, its data.
 use Prim.Native.Nat.{ℕ, _^_, _≤_, _<_}
 use mathlib.Core.Path.{_≡_, refl, ap, _∙_}
 use mathlib.Core.Bool.{Bool, true, false, _&&_, cond}
@@ -21,13 +21,12 @@ use Rattle.shorthand.specs.declared.Item.{Item}
 use Rattle.shorthand.specs.Layout.{width, missingOf, fewest, Sign, barred, required, optional, signOf}
 use Rattle.shorthand.specs.Facts.{Widths}
 use Rattle.words.specs.declared.Value.{Value}
-use Rattle.words.specs.declared.Word.{Word}
-use Rattle.reading.specs.Relation.{digits, Punched, in-full, front, back, Signed, never, plus, minus, plus-stands, minus-stands, plus-missing, Data, number, speed, dimension, Worded, word, chars}
+use Rattle.reading.specs.Relation.{digits, Punched, in-full, front, back, Signed, never, plus, minus, plus-stands, minus-stands, plus-missing, Data, number, speed, dimension, chars}
 use Rattle.words.specs.declared.Wanted.{Wanted}
-use Rattle.words.specs.Figures.{behind, frontPlace, isDigit, restored, figures, isSign, mayStand, mayMiss, signed}
+use Rattle.words.specs.Figures.{isDigit, restored, figures, isSign, isFigure, mayStand, mayMiss, signed}
 use Rattle.words.specs.Data.{signedValue, meant, dataAt, wordAt}
 use Rattle.reading.proofs.DigitRows.{Digit, worth, digits-length, digits-digit, digits-worth, leading-worth, leading-length, leading-digit, trailing-worth, trailing-length, trailing-digit}
-use Rattle.reading.proofs.RowsAhead.{heads, digit-heads, behind-chars, digit-no-sign, Takes, run-takes}
+use Rattle.reading.proofs.RowsAhead.{heads, digit-heads, is-digit, digit-no-sign, Takes, run-takes}
 
 -- ---- figures
 
@@ -132,10 +131,29 @@ data-takes (speed {k} {v} c q) w len a rs u e h = parts-take len a c (Kind.Speed
 data-takes (dimension {d} {m} {s = s} {ds} g q) w len a rs u e h =
     parts-take len a m (Kind.Dimension d) g (reads q) (w .2) (λ b t. rw t) rs u (e ∙ append-assoc s ds u) h
 
+-- they begin with a digit or a sign
+figures-front : (ds u : List ℕ) → Every Digit ds → 1 ≤ length ds → heads isFigure (ds ++ u) ≡ true
+figures-front [] u all some = absurd (omega arith)
+figures-front (d ∷ ds) u all some = rw (is-digit d (all .0))
+
+sign-front : {m : ℕ} {g : Sign} {z : ℤ} {s : List ℕ} → Signed m g z s → (x : List ℕ) → heads isFigure x ≡ true → heads isFigure (s ++ x) ≡ true
+sign-front never x h = h
+sign-front plus x h = refl
+sign-front minus x h = refl
+sign-front plus-stands x h = refl
+sign-front minus-stands x h = refl
+sign-front plus-missing x h = h
+
+reads-front : (k : Kind) {m : ℕ} {ds : List ℕ} → Reads (missingOf k) (width k) m ds → 1 ≤ width k → (u : List ℕ) → heads isFigure (ds ++ u) ≡ true
+reads-front k {ds = ds} p w u = figures-front ds u (p .digit) (omega (arith, p .least, fewest-some (missingOf k) (width k) w))
+
+pub data-front : {k : Kind} {x : Value} {d : List ℕ} → Data k x d → Widths k → (u : List ℕ) → heads isFigure (d ++ u) ≡ true
+data-front (number {n} q) w u = reads-front (Plain n) (reads q) (w .0) u
+data-front (speed {k} {v} c q) w u = reads-front (Kind.Speed k) (reads-full k c (speed-small k c v q)) (omega arith) u
+data-front (dimension {d} {s = s} {ds} g q) w u = rw (append-assoc s ds u) (sign-front g (ds ++ u) (reads-front (Kind.Dimension d) (reads q) (w .2) u))
+
 -- ---- a word
 
-pub word-takes : {it : Item} {w : Word} {d : List ℕ} → Worded it w d → Widths (it .kind) → (len : ℕ) (rs : List KeptRow) (u : List ℕ) → chars rs ≡ d ++ u → heads isDigit u ≡ false
-    → Takes (wordAt len it rs) w u
-word-takes {it} (word {x} {ds} q) w len rs u e h =
-    let t = data-takes q w len (frontPlace rs) (behind rs) u (behind-chars (it .letter) (ds ++ u) rs e) h in
-    record { rest = t .rest; takes = rw (t .takes); leaves = t .leaves }
+pub word-takes : (it : Item) {x : Value} {d : List ℕ} → Data (it .kind) x d → Widths (it .kind) → (len a : ℕ) (rs : List KeptRow) (u : List ℕ) → chars rs ≡ d ++ u → heads isDigit u ≡ false
+    → Takes (wordAt len it a rs) (record { letter = it .letter; value = x }) u
+word-takes it q w len a rs u e h = let t = data-takes q w len a rs u e h in record { rest = t .rest; takes = rw (t .takes); leaves = t .leaves }

@@ -1,19 +1,18 @@
 -- The answer of the fourth stage: the words of a block, a block, and all blocks of the kept rows (document 01).
 use Prim.Native.Nat.{ℕ, zero, suc, _+_}
-use mathlib.Core.Bool.{Bool, cond}
 use mathlib.Core.List.{List, [], _∷_}
 use Rattle.rows.specs.Answer.{Answer, taken, _>>=_}
 use Rattle.rows.specs.Kept.{KeptRow}
 use Rattle.shorthand.specs.declared.Item.{Item}
 use Rattle.shorthand.specs.declared.Format.{Format}
-use Rattle.shorthand.specs.Layout.{itemsOf}
+use Rattle.shorthand.specs.Layout.{itemsOf, Way, wayOf}
 use Rattle.words.specs.declared.Word.{Word}
-use Rattle.words.specs.Figures.{Behind, taking, fronts}
+use Rattle.words.specs.Figures.{Behind, taking}
 use Rattle.words.specs.Data.{wordAt}
 use Rattle.parts.specs.declared.Begun.{Begun}
 use Rattle.parts.specs.Ends.{closeAt}
 use Rattle.parts.specs.Starts.{startAt}
-use Rattle.parts.specs.Items.{steps, stepped}
+use Rattle.parts.specs.Items.{Standing, stops, out, at, standing}
 use Rattle.reading.specs.declared.Block.{Block}
 use Rattle.reading.specs.Record.{blockOf}
 
@@ -22,14 +21,16 @@ use Rattle.reading.specs.Record.{blockOf}
 abbrev pub consWord : Word → Answer (Behind (List Word)) → Answer (Behind (List Word))
 consWord w a = a >>= λ x. taking (w ∷ x .value) (x .rest)
 
--- an item's word where its address stands, and then those of the items after it
-unfoldable pub wordsAt : ℕ → Bool → List Item → List KeptRow → Answer (Behind (List Word))
-wordsAt len tabs [] rs = taking [] rs
-wordsAt len tabs (it ∷ its) rs =
-    cond (steps tabs rs)
-    (cond (fronts (it .letter) (stepped tabs rs)) (wordAt len it (stepped tabs rs) >>= λ w. consWord (w .value) (wordsAt len tabs its (w .rest)))
-    (wordsAt len tabs its (stepped tabs rs)))
-    (taking [] rs)
+-- the words from an item on, by how it stands, where the others give those of the items after it
+abbrev pub resumed : ℕ → Item → List KeptRow → (List KeptRow → Answer (Behind (List Word))) → Standing → Answer (Behind (List Word))
+resumed len it rs others stops = taking [] rs
+resumed len it rs others (out u) = others u
+resumed len it rs others (at a u) = wordAt len it a u >>= λ w. consWord (w .value) (others (w .rest))
+
+-- an item's word where it stands, and then those of the items after it
+unfoldable pub wordsAt : ℕ → Way → List Item → List KeptRow → Answer (Behind (List Word))
+wordsAt len y [] rs = taking [] rs
+wordsAt len y (it ∷ its) rs = resumed len it rs (wordsAt len y its) (standing y (it .letter) rs)
 
 -- ---- a block
 
@@ -45,7 +46,7 @@ built b ws = blockOf (b .skip) (b .alignment) (b .sequence) ws
 -- behind its start: the words, and an end, or 10 at any other row
 abbrev pub wordsAndEnd : ℕ → Format → Behind Begun → Answer (Behind BlockRead)
 wordsAndEnd len f s =
-    wordsAt len (f .dots) (itemsOf f) (s .rest) >>= λ ws. closeAt len (ws .rest) >>= λ e. taking (record { block = built (s .value) (ws .value); lf = e .value }) (e .rest)
+    wordsAt len (wayOf f) (itemsOf f) (s .rest) >>= λ ws. closeAt len (ws .rest) >>= λ e. taking (record { block = built (s .value) (ws .value); lf = e .value }) (e .rest)
 
 unfoldable pub blockAt : ℕ → Format → List KeptRow → Answer (Behind BlockRead)
 blockAt len f rs = startAt len (f .sequence) rs >>= wordsAndEnd len f

@@ -1,4 +1,4 @@
--- Which rows a program may stand as under a Format, from the program to the rows (document 01, "Four stages" and "The record").
+-- Which rows a program may stand as under a Format, from the program to the rows (documents 01, "Four stages" and "The record", and 02, 2/12).
 -- Nothing here answers a value for rows.
 use Prim.Native.Nat.{ℕ, zero, suc, _+_, _/_, _%_, _^_, _<_}
 use mathlib.Core.Path.{_≡_}
@@ -6,7 +6,7 @@ use mathlib.Core.Bool.{Bool, true, false, cond}
 use mathlib.Core.List.{List, [], _∷_, _++_, map}
 use lib.ListN.{length, replicate}
 use lib.IntN.{ℤ, pos, negℤ}
-use Rattle.rows.specs.Answer.{Answer, taken}
+use Rattle.rows.specs.Answer.{taken}
 use Rattle.rows.specs.Kept.{KeptRow, kept}
 use Rattle.rows.specs.Passes.{Passes}
 use Rattle.speeds.specs.Meaning.{speedFor}
@@ -17,9 +17,8 @@ use Rattle.shorthand.specs.declared.Kind.the-variants.{Plain}
 use Rattle.shorthand.specs.declared.Figures.{Figures}
 use Rattle.shorthand.specs.declared.Item.{Item}
 use Rattle.shorthand.specs.declared.Format.{Format}
-use Rattle.shorthand.specs.Layout.{itemsOf, Sign, barred, required, optional, signOf}
-use Rattle.shorthand.specs.Lawful.{Lawful}
-use Rattle.shorthand.specs.Spell.{spell}
+use Rattle.shorthand.specs.Layout.{itemsOf, Way, by-letter, by-both, by-tab, wayOf, Sign, barred, required, optional, signOf}
+use Rattle.profile.specs.Relation.{Settled}
 use Rattle.words.specs.declared.Value.{Value}
 use Rattle.words.specs.declared.Value.the-variants.{Number}
 use Rattle.words.specs.declared.Word.{Word}
@@ -56,24 +55,27 @@ pub data Data : Kind → Value → List ℕ → Type 0 where
   dimension : {d : Figures} {m : ℕ} {z : ℤ} {s ds : List ℕ} → Signed m (signOf (Kind.Dimension d)) z s → Punched (d .before + d .after) m (d .missing) ds
       → Data (Kind.Dimension d) (Value.Dimension z) (s ++ ds)
 
--- the address of an item's word
-abbrev pub address : Item → List ℕ
-address it = it .letter ∷ []
+-- the address of an item's word: its letter, or nothing where the item is known by its tab alone
+abbrev pub address : Way → Item → List ℕ
+address by-letter it = it .letter ∷ []
+address by-both it = it .letter ∷ []
+address by-tab it = []
 
-pub data Worded (it : Item) : Word → List ℕ → Type 0 where
-  word : {x : Value} {ds : List ℕ} → Data (it .kind) x ds → Worded it (record { letter = it .letter; value = x }) (address it ++ ds)
+pub data Worded (y : Way) (it : Item) : Word → List ℕ → Type 0 where
+  word : {x : Value} {ds : List ℕ} → Data (it .kind) x ds → Worded y it (record { letter = it .letter; value = x }) (address y it ++ ds)
 
 -- with tabs each HT steps to the next item; without there is nothing between words
-abbrev pub tab : Bool → List ℕ
-tab true = 9 ∷ []
-tab false = []
+abbrev pub tab : Way → List ℕ
+tab by-letter = []
+tab by-both = 9 ∷ []
+tab by-tab = 9 ∷ []
 
 -- words in the items' order: an item's word is left out or stands; tabs after the last word stay or go
-pub data Words (tabs : Bool) : List Item → List Word → List ℕ → Type 0 where
-  done : {its : List Item} → Words tabs its [] []
-  out : {it : Item} {its : List Item} {ws : List Word} {r : List ℕ} → Words tabs its ws r → Words tabs (it ∷ its) ws (tab tabs ++ r)
-  here : {it : Item} {its : List Item} {w : Word} {ws : List Word} {d r : List ℕ} → Worded it w d → Words tabs its ws r
-      → Words tabs (it ∷ its) (w ∷ ws) (tab tabs ++ (d ++ r))
+pub data Words (y : Way) : List Item → List Word → List ℕ → Type 0 where
+  done : {its : List Item} → Words y its [] []
+  out : {it : Item} {its : List Item} {ws : List Word} {r : List ℕ} → Words y its ws r → Words y (it ∷ its) ws (tab y ++ r)
+  here : {it : Item} {its : List Item} {w : Word} {ws : List Word} {d r : List ℕ} → Worded y it w d → Words y its ws r
+      → Words y (it ∷ its) (w ∷ ws) (tab y ++ (d ++ r))
 
 -- an end is LF, or CR directly before LF
 pub data End : List ℕ → Type 0 where
@@ -90,7 +92,7 @@ abbrev pub sequenceRows : ℕ → Bool → ℕ → List ℕ
 sequenceRows d alignment n = cond alignment 58 78 ∷ digits d n
 
 pub data Blocked (f : Format) : Block → List ℕ → Type 0 where
-  block : {n : ℕ} {ws : List Word} {r e : List ℕ} (skip alignment : Bool) → n < 10 ^ f .sequence → Words (f .dots) (itemsOf f) ws r → End e
+  block : {n : ℕ} {ws : List Word} {r e : List ℕ} (skip alignment : Bool) → n < 10 ^ f .sequence → Words (wayOf f) (itemsOf f) ws r → End e
       → Blocked f (blockOf skip alignment n ws) (skipRows skip ++ (sequenceRows (f .sequence) alignment n ++ (r ++ e)))
 
 pub data Blocks (f : Format) : List Block → List ℕ → Type 0 where
@@ -104,10 +106,9 @@ pub data Program (f : Format) : List Block → List ℕ → Type 0 where
 abbrev pub chars : List KeptRow → List ℕ
 chars rs = map (λ r. r .char) rs
 
--- t is a tape of the program bs under the edition e and the shorthand s
-pub record TapeOf (e : ℕ) (s : List ℕ) (bs : List Block) (t : List ℕ) : Type 0 where
+-- t is a tape of the program bs under the edition e, the shorthand s and the profile p
+pub record TapeOf (e : ℕ) (s p : List ℕ) (bs : List Block) (t : List ℕ) : Type 0 where
   pub format : Format
-  pub lawful : Lawful e format
-  pub spelt : s ≡ spell format
+  pub settled : Settled e s p format
   pub passes : Passes t
   pub stands : Program format bs (chars (kept t))

@@ -1,4 +1,4 @@
-// Reading: the blocks of a tape under an edition and a shorthand: their number, block n, its rows.
+// Reading: the blocks of a tape under an edition, a shorthand and a profile: their number, block n, its rows. A profile of no bytes is none.
 ghost use mathlib.Core.Path.{_≡_};
 ghost use mathlib.Core.List.{[]};
 ghost use Rattle.rows.specs.Answer.{numberOf, placeOf, told, void, valueOr};
@@ -77,10 +77,10 @@ fn within(count: Counted, n: usize) -> Checked
 }
 
 // The number of blocks of a tape.
-pub fn count_blocks(edition: u32, text: &[u8], tape: &[u8]) -> Counted
-    ensures { λ r. ⌜ countTold r ≡ counted edition (now (text .entry)) (now (tape .entry)) ⌝ }
+pub fn count_blocks(edition: u32, text: &[u8], profile: &[u8], tape: &[u8]) -> Counted
+    ensures { λ r. ⌜ countTold r ≡ counted edition (now (text .entry)) (now (profile .entry)) (now (tape .entry)) ⌝ }
 {
-    let parsed = shorthand::parse(edition, text);
+    let parsed = profile::parse(edition, text, profile);
     let format = parsed.format;
     let outcome = parsed.outcome;
     match outcome {
@@ -130,11 +130,11 @@ fn read_under(tape: &[u8], format: Format, n: usize) -> BlockAnswer
 }
 
 // Block n of a tape, from 0.
-pub fn read_block(edition: u32, text: &[u8], tape: &[u8], n: usize) -> BlockAnswer
-    ensures outcome { λ r. ⌜ told (r .outcome) ≡ void (blockNumbered edition (now (text .entry)) (now (tape .entry)) n) ⌝ }
-    ensures block { λ r. ⌜ r .block ≡ valueOr emptyBlock (blockNumbered edition (now (text .entry)) (now (tape .entry)) n) ⌝ }
+pub fn read_block(edition: u32, text: &[u8], profile: &[u8], tape: &[u8], n: usize) -> BlockAnswer
+    ensures outcome { λ r. ⌜ told (r .outcome) ≡ void (blockNumbered edition (now (text .entry)) (now (profile .entry)) (now (tape .entry)) n) ⌝ }
+    ensures block { λ r. ⌜ r .block ≡ valueOr emptyBlock (blockNumbered edition (now (text .entry)) (now (profile .entry)) (now (tape .entry)) n) ⌝ }
 {
-    let parsed = shorthand::parse(edition, text);
+    let parsed = profile::parse(edition, text, profile);
     let format = parsed.format;
     let outcome = parsed.outcome;
     match outcome {
@@ -147,11 +147,11 @@ pub fn read_block(edition: u32, text: &[u8], tape: &[u8], n: usize) -> BlockAnsw
 }
 
 // Where the rows of block n stand.
-fn find_part(edition: u32, text: &[u8], tape: &[u8], n: usize) -> PartAnswer
-    ensures outcome { λ r. ⌜ told (r .outcome) ≡ void (entryNumbered edition (now (text .entry)) (now (tape .entry)) n) ⌝ }
-    ensures part { λ r. ⌜ r .part ≡ partOf (valueOr nowhere (entryNumbered edition (now (text .entry)) (now (tape .entry)) n)) ⌝ }
+fn find_part(edition: u32, text: &[u8], profile: &[u8], tape: &[u8], n: usize) -> PartAnswer
+    ensures outcome { λ r. ⌜ told (r .outcome) ≡ void (entryNumbered edition (now (text .entry)) (now (profile .entry)) (now (tape .entry)) n) ⌝ }
+    ensures part { λ r. ⌜ r .part ≡ partOf (valueOr nowhere (entryNumbered edition (now (text .entry)) (now (profile .entry)) (now (tape .entry)) n)) ⌝ }
 {
-    let parsed = shorthand::parse(edition, text);
+    let parsed = profile::parse(edition, text, profile);
     let format = parsed.format;
     let outcome = parsed.outcome;
     match outcome {
@@ -185,16 +185,17 @@ fn place_of(outcome: Checked) -> usize
 pub fn block_rows<'a, 'b>(
     edition: u32,
     text: &[u8],
+    profile: &[u8],
     tape: &'a [u8],
     n: usize,
     number: &'b mut u32,
     place: &'b mut usize,
 ) -> &'a [u8]
-    ensures number { λ r. ⌜ now (number .exit) ≡ numberOf (rowsNumbered edition (now (text .entry)) (now (tape .entry)) n) ⌝ }
-    ensures place { λ r. ⌜ now (place .exit) ≡ placeOf (rowsNumbered edition (now (text .entry)) (now (tape .entry)) n) ⌝ }
-    ensures rows { λ r. ⌜ now r ≡ valueOr [] (rowsNumbered edition (now (text .entry)) (now (tape .entry)) n) ⌝ }
+    ensures number { λ r. ⌜ now (number .exit) ≡ numberOf (rowsNumbered edition (now (text .entry)) (now (profile .entry)) (now (tape .entry)) n) ⌝ }
+    ensures place { λ r. ⌜ now (place .exit) ≡ placeOf (rowsNumbered edition (now (text .entry)) (now (profile .entry)) (now (tape .entry)) n) ⌝ }
+    ensures rows { λ r. ⌜ now r ≡ valueOr [] (rowsNumbered edition (now (text .entry)) (now (profile .entry)) (now (tape .entry)) n) ⌝ }
 {
-    let found = find_part(edition, text, tape, n);
+    let found = find_part(edition, text, profile, tape, n);
     let outcome = found.outcome;
     let part = found.part;
     let from = part.from;

@@ -1,6 +1,6 @@
 -- `reading::block_rows`: where the part stands is known, and it stands within the tape.
 use Prim.Native.Nat.{_-_, _≤_}
-use mathlib.Core.Path.{_≡_, _∙_, sym, ap}
+use mathlib.Core.Path.{_∙_, sym, ap}
 use native.Mathlib.Omega.{arith}
 use lib.ListN.{length, take, drop}
 use denote.Ref.{now}
@@ -23,11 +23,11 @@ place-of-requires c κs = search needs
 -- the part stands within the tape
 within : (c : tie.After-place-of) →
     let part = c .before .before .before .find-part .result .part in
-    (part .from ≤ part .to) × (part .to ≤ length (now (c .before .before .before .before .before .before .args .tape)))
+    (part .from ≤ part .to) × (part .to ≤ length (now (c .before .before .before .before .before .before .before .args .tape)))
 within c =
-    let a = c .before .before .before .before .before .before .args in
+    let a = c .before .before .before .before .before .before .before .args in
     let p = c .before .before .before .find-part .ensures .1 in
-    let w = entry-within (a .edition) (now (a .text)) (now (a .tape)) (a .n) in
+    let w = entry-within (a .edition) (now (a .text)) (now (a .profile)) (now (a .tape)) (a .n) in
     (omega (arith, ap (λ x. x .from) p, ap (λ x. x .to) p, w .0), omega (arith, ap (λ x. x .to) p, w .1))
 
 sub-result : tie.Need-sub-result
@@ -41,10 +41,10 @@ part-result-end c = within c .1
 
 returns : tie.Need-returns
 returns c =
-    let a = c .before .before .before .before .before .before .before .args in
+    let a = c .before .before .before .before .before .before .before .before .args in
     let found = c .before .before .before .before .find-part .ensures in
     let rows = entryRows (now (a .tape)) in
-    let entry = entryNumbered (a .edition) (now (a .text)) (now (a .tape)) (a .n) in (
+    let entry = entryNumbered (a .edition) (now (a .text)) (now (a .profile)) (now (a .tape)) (a .n) in (
       c .before .before .number-of .ensures ∙ ap numberOf (found .0) ∙ number-map rows entry,
       (c .before .place-of .ensures ∙ ap placeOf (found .0) ∙ place-map rows entry, ap (λ p. take (p .to - p .from) (drop (p .from) (now (a .tape)))) (found .1) ∙ sym (value-map rows nowhere entry)),
     )
