@@ -18,11 +18,11 @@ use Rattle.shorthand.specs.declared.Missing.{Missing}
 use Rattle.shorthand.specs.declared.Kind.{Kind}
 use Rattle.shorthand.specs.declared.Item.{Item}
 use Rattle.shorthand.specs.declared.Format.{Format}
-use Rattle.shorthand.specs.Layout.{Sign, required, optional}
+use Rattle.shorthand.specs.Layout.{Way, Sign, required, optional}
 use Rattle.shorthand.specs.Facts.{Fair, Facts}
 use Rattle.shorthand.specs.Edition.{anyOf}
 use Rattle.shorthand.proofs.Tests.{left, right}
-use Rattle.shorthand.proofs.Fairness.{lawful-facts}
+use Rattle.profile.proofs.Settling.{settled-facts}
 use Rattle.words.specs.declared.Value.{Value}
 use Rattle.words.specs.declared.Word.{Word}
 use Rattle.reading.specs.declared.Block.{Block}
@@ -65,19 +65,19 @@ value-fit (dimension {d = d} g p) i = let q = measured g in rw (q .size, lt-ltb 
 
 -- ---- words
 
-word-fit : {it : Item} {w : Word} {d : List ℕ} → Worded it w d → (i : ℕ) → (w .letter ≡ it .letter) × (valueFits i (it .kind) (w .value) ≡ taken tt)
+word-fit : {y : Way} {it : Item} {w : Word} {d : List ℕ} → Worded y it w d → (i : ℕ) → (w .letter ≡ it .letter) × (valueFits i (it .kind) (w .value) ≡ taken tt)
 word-fit (word d) i = (refl, value-fit d i)
 
 abbrev has : List Item → ℕ → Bool
 has its l = anyOf (λ c. eqb c l) (map (λ i. i .letter) its)
 
 -- the first word has the letter of one of the items
-first-letter : {tabs : Bool} {its : List Item} {w : Word} {ws : List Word} {r : List ℕ} → Words tabs its (w ∷ ws) r → T (has its (w .letter))
+first-letter : {y : Way} {its : List Item} {w : Word} {ws : List Word} {r : List ℕ} → Words y its (w ∷ ws) r → T (has its (w .letter))
 first-letter {w = w} (out {it = it} {its = its} h) = right (eqb (it .letter) (w .letter)) (has its (w .letter)) (first-letter h)
 first-letter {w = w} (here {it = it} {its = its} x h) = left (eqb (it .letter) (w .letter)) (has its (w .letter)) (rw (word-fit x 0 .0) (eqb-refl (it .letter)))
 
 -- no letter stands twice, so an item whose word is left out is passed by
-passed : {tabs : Bool} {its : List Item} {r : List ℕ} (i : ℕ) (it : Item) (ws : List Word) → T (not (has its (it .letter))) → Words tabs its ws r
+passed : {y : Way} {its : List Item} {r : List ℕ} (i : ℕ) (it : Item) (ws : List Word) → T (not (has its (it .letter))) → Words y its ws r
     → wordsFit i its ws ≡ taken tt → wordsFit i (it ∷ its) ws ≡ taken tt
 unfolding wordsFit
 passed i it [] new h e = e
@@ -85,13 +85,13 @@ passed {its = its} i it (w ∷ ws) new h e =
     let other = ne-eqb (w .letter) (it .letter) (λ q. T-not (has its (it .letter)) new (rw q at (first-letter h))) in
     rw other e
 
-words-fit : {tabs : Bool} {its : List Item} {ws : List Word} {r : List ℕ} → Fair its → Words tabs its ws r → (i : ℕ) → wordsFit i its ws ≡ taken tt
+words-fit : {y : Way} {its : List Item} {ws : List Word} {r : List ℕ} → Fair its → Words y its ws r → (i : ℕ) → wordsFit i its ws ≡ taken tt
 unfolding wordsFit
 words-fit fair done i = refl
 words-fit (Fair.more l w new fair) (out {it = it} {ws = ws} h) i = passed i it ws new h (words-fit fair h i)
 words-fit (Fair.more l w new fair) (here x h) i = let f = word-fit x i in rw (eq-eqb _ _ (f .0), f .1) (words-fit fair h (suc i))
 
-few-words : {tabs : Bool} {its : List Item} {ws : List Word} {r : List ℕ} → Words tabs its ws r → length ws ≤ length its
+few-words : {y : Way} {its : List Item} {ws : List Word} {r : List ℕ} → Words y its ws r → length ws ≤ length its
 few-words done = zero-le
 few-words (out h) = omega (arith, few-words h)
 few-words (here x h) = omega (arith, few-words h)
@@ -134,7 +134,7 @@ module _ {f : Format} (facts : Facts f) where
   program-fit (program e h) = blocks-fit h
 
 -- the blocks of any tape, punched anew, are within the limit a tape of the same program
-pub punched-again : {e : ℕ} {s : List ℕ} {bs : List Block} {t : List ℕ} (h : TapeOf e s bs t) → length (punchedTape (h .format) bs) ≤ limit → TapeOf e s bs (punchedTape (h .format) bs)
-punched-again {e} {s} {bs} h short =
-    let p = program-fit (lawful-facts (h .lawful)) (h .stands) in
-    subst (λ (cs : List Block). TapeOf e s cs (punchedTape (h .format) bs)) (p .1) (punched-tape (h .lawful) (h .spelt) bs (p .0) short)
+pub punched-again : {e : ℕ} {s p : List ℕ} {bs : List Block} {t : List ℕ} (h : TapeOf e s p bs t) → length (punchedTape (h .format) bs) ≤ limit → TapeOf e s p bs (punchedTape (h .format) bs)
+punched-again {e} {s} {p} {bs} h short =
+    let q = program-fit (settled-facts (h .settled)) (h .stands) in
+    subst (λ (cs : List Block). TapeOf e s p cs (punchedTape (h .format) bs)) (q .1) (punched-tape (h .settled) bs (q .0) short)

@@ -1,13 +1,15 @@
 -- Laws of the line that a block's rows are composed in: one put behind another is the put of both.
 use Prim.Native.Nat.{ℕ, _+_, _≤_}
 use mathlib.Core.Path.{_≡_, refl, sym, ap, _∙_}
-use mathlib.Core.List.{List, [], _++_, append-nil, append-assoc, map-append}
-use mathlib.Core.Bool.{Bool, true, false}
+use mathlib.Core.List.{List, [], _∷_, _++_, append-nil, append-assoc, map-append}
+use mathlib.Core.Bool.{Bool, true, false, _&&_, not, cond}
 use native.Mathlib.Nat.{le-refl}
 use native.Mathlib.Omega.{arith}
 use lib.ListN.{length, take, length-append}
 use Rattle.rows.specs.Answer.{Answer, taken, refused, _>>_}
-use Rattle.reading.specs.Relation.{tab, skipRows}
+use Rattle.shorthand.specs.declared.Item.{Item}
+use Rattle.shorthand.specs.Layout.{Way, by-letter, by-both, by-tab, wayBy}
+use Rattle.reading.specs.Relation.{address, tab, skipRows}
 use Rattle.punching.specs.Rows.{rowOf}
 use Rattle.punching.specs.Line.{joined, Put, behind}
 
@@ -38,6 +40,23 @@ pub skip-most : (skip : Bool) → length (skipRows skip) ≤ 1
 skip-most true = le-refl 1
 skip-most false = omega arith
 
-pub tab-most : (dots : Bool) → length (tab dots) ≤ 1
-tab-most true = le-refl 1
-tab-most false = omega arith
+pub tab-most : (y : Way) → length (tab y) ≤ 1
+tab-most by-letter = omega arith
+tab-most by-both = le-refl 1
+tab-most by-tab = le-refl 1
+
+pub address-most : (y : Way) (it : Item) → length (address y it) ≤ 1
+address-most by-letter it = le-refl 1
+address-most by-both it = le-refl 1
+address-most by-tab it = omega arith
+
+-- where the items have dots there are tabs, with addresses or without
+pub tab-dots : (addresses : Bool) → tab (wayBy true addresses) ≡ 9 ∷ []
+tab-dots true = refl
+tab-dots false = refl
+
+-- a word has its letter, but where the items have dots and their words no addresses
+pub address-by : (dots addresses : Bool) (it : Item) → address (wayBy dots addresses) it ≡ cond (dots && not addresses) [] (it .letter ∷ [])
+address-by false addresses it = refl
+address-by true true it = refl
+address-by true false it = refl

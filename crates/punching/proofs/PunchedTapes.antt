@@ -1,11 +1,11 @@
 -- The round trip: a head and blocks punched behind any accepted tape, within the row limit, read back as they were handed in, with unused places cleared.
 use Prim.Native.Nat.{ℕ, _+_, _≤_}
-use mathlib.Core.Path.{_≡_, ap, sym, _∙_}
+use mathlib.Core.Path.{_≡_, ap, _∙_}
 use mathlib.Core.List.{List, [], _∷_, _++_, append-assoc, append-nil, map}
 use native.Mathlib.Omega.{arith}
 use lib.Dec.{lit≤}
 use lib.ListN.{length, length-append, length-map}
-use Rattle.rows.specs.Answer.{taken, valueOr}
+use Rattle.rows.specs.Answer.{taken}
 use Rattle.rows.specs.Kept.{kept}
 use Rattle.rows.specs.ControlOut.{WellFormed}
 use Rattle.rows.specs.Passes.{Every, Passes}
@@ -13,13 +13,11 @@ use Rattle.rows.specs.Stages.{limit}
 use Rattle.rows.proofs.TapesJoined.{passes-append, kept-append}
 use Rattle.shorthand.specs.declared.Format.{Format}
 use Rattle.shorthand.specs.Facts.{Facts}
-use Rattle.shorthand.specs.Lawful.{Lawful}
-use Rattle.shorthand.specs.Spell.{spell}
-use Rattle.shorthand.specs.Parse.{parsed}
-use Rattle.shorthand.proofs.Accepted.{complete}
-use Rattle.shorthand.proofs.Fairness.{lawful-facts}
+use Rattle.profile.specs.Answers.{agreed}
+use Rattle.profile.specs.Relation.{Settled}
+use Rattle.profile.proofs.Settling.{settled-exactly, one-format, settled-facts}
 use Rattle.reading.specs.declared.Block.{Block}
-use Rattle.reading.specs.Relation.{lf, Blocks, none, more, Program, program, chars, TapeOf}
+use Rattle.reading.specs.Relation.{lf, none, more, Program, program, chars, TapeOf}
 use Rattle.reading.specs.Parse.{Entry}
 use Rattle.reading.specs.Answers.{readUnder}
 use Rattle.reading.proofs.Outcomes.{chars-append}
@@ -29,7 +27,7 @@ use Rattle.punching.specs.Fits.{recordFits}
 use Rattle.punching.specs.Answers.{blockPunched}
 use Rattle.punching.proofs.Records.{punched-stands}
 use Rattle.reading.proofs.BareRows.{Bare, block-bare}
-use Rattle.reading.proofs.BlocksJoined.{blocks-append, program-append}
+use Rattle.reading.proofs.BlocksJoined.{program-append}
 use Rattle.punching.proofs.PunchedRows.{punched-kept, punched-pass}
 use Rattle.punching.proofs.Refusals.{block-written}
 
@@ -70,7 +68,7 @@ abbrev pub punchedTape : Format → List Block → List ℕ
 punchedTape f bs = headRows ++ punchedBlocks f bs
 
 -- one block and then more, or all of them at once
-pub regrouped : {e : ℕ} {s : List ℕ} (bs : List Block) (b : Block) (cs : List Block) (t r u : List ℕ) → TapeOf e s (bs ++ (b ∷ []) ++ cs) (t ++ r ++ u) → TapeOf e s (bs ++ (b ∷ cs)) (t ++ (r ++ u))
+pub regrouped : {e : ℕ} {s p : List ℕ} (bs : List Block) (b : Block) (cs : List Block) (t r u : List ℕ) → TapeOf e s p (bs ++ (b ∷ []) ++ cs) (t ++ r ++ u) → TapeOf e s p (bs ++ (b ∷ cs)) (t ++ (r ++ u))
 regrouped bs b cs t r u h = rw (append-assoc bs (b ∷ []) cs, append-assoc t r u) at h
 
 -- what is within the limit with more behind it is within the limit
@@ -79,26 +77,24 @@ front-short t r s h = omega (arith, length-append (t ++ r) s)
 
 -- ---- a block behind a tape
 
-module _ (e : ℕ) (s : List ℕ) (f : Format) (parses : parsed e s ≡ taken f) where
-  pub block-appended : {bs : List Block} {t : List ℕ} (b : Block) → TapeOf e s bs t → recordFits f b ≡ taken tt → length (t ++ rowsOf f b) ≤ limit
-      → TapeOf e s (bs ++ (cleared b ∷ [])) (t ++ rowsOf f b)
+module _ (e : ℕ) (s p : List ℕ) (f : Format) (agrees : agreed e s p ≡ taken f) where
+  pub block-appended : {bs : List Block} {t : List ℕ} (b : Block) → TapeOf e s p bs t → recordFits f b ≡ taken tt → length (t ++ rowsOf f b) ≤ limit
+      → TapeOf e s p (bs ++ (cleared b ∷ [])) (t ++ rowsOf f b)
   block-appended {bs} {t} b h fits short =
-      let p : parsed e s ≡ taken (h .format) = ap (parsed e) (h .spelt) ∙ complete (h .lawful) in
-      let same : h .format ≡ f = ap (valueOr f) (sym p ∙ parses) in
-      let lawful : Lawful e f = rw same at (h .lawful) in
-      let facts = lawful-facts lawful in
+      let settled : Settled e s p f = settled-exactly e s p f .0 agrees in
+      let same : h .format ≡ f = one-format (h .settled) settled in
+      let facts = settled-facts settled in
       record {
         format = f;
-        lawful = lawful;
-        spelt = rw same at (h .spelt);
+        settled = settled;
         passes = passes-punched f facts b fits (h .passes) short;
         stands = program-punched f facts b fits (h .passes .formed) (rw same at (h .stands));
       }
 
   -- ---- blocks behind a tape
 
-  pub blocks-appended : (cs : List Block) {bs : List Block} {t : List ℕ} → TapeOf e s bs t → Every (λ b. recordFits f b ≡ taken tt) cs → length (t ++ punchedBlocks f cs) ≤ limit
-      → TapeOf e s (bs ++ map cleared cs) (t ++ punchedBlocks f cs)
+  pub blocks-appended : (cs : List Block) {bs : List Block} {t : List ℕ} → TapeOf e s p bs t → Every (λ b. recordFits f b ≡ taken tt) cs → length (t ++ punchedBlocks f cs) ≤ limit
+      → TapeOf e s p (bs ++ map cleared cs) (t ++ punchedBlocks f cs)
   blocks-appended [] {bs} {t} h fits short = rw (append-nil bs, append-nil t) h
   blocks-appended (b ∷ cs) {bs} {t} h fits short =
       let rows = rowsOf f b in
@@ -110,35 +106,34 @@ module _ (e : ℕ) (s : List ℕ) (f : Format) (parses : parsed e s ≡ taken f)
   -- ---- and read back
 
   -- punched behind any accepted tape, a block reads back behind the old ones
-  pub read-appended : (t : List ℕ) (es : List Entry) (b : Block) → readUnder e s t ≡ taken es → recordFits f b ≡ taken tt → length (t ++ rowsOf f b) ≤ limit
-      → (es′ : List Entry) × (readUnder e s (t ++ rowsOf f b) ≡ taken es′) × (blocksOf es′ ≡ blocksOf es ++ (cleared b ∷ []))
-  read-appended t es b q fits short = tape-read e s (t ++ rowsOf f b) _ (block-appended b (read-tape e s t es q) fits short)
+  pub read-appended : (t : List ℕ) (es : List Entry) (b : Block) → readUnder e s p t ≡ taken es → recordFits f b ≡ taken tt → length (t ++ rowsOf f b) ≤ limit
+      → (es′ : List Entry) × (readUnder e s p (t ++ rowsOf f b) ≡ taken es′) × (blocksOf es′ ≡ blocksOf es ++ (cleared b ∷ []))
+  read-appended t es b q fits short = tape-read e s p (t ++ rowsOf f b) _ (block-appended b (read-tape e s p t es q) fits short)
 
 -- ---- a whole tape
 
-module _ {e : ℕ} {s : List ℕ} {f : Format} (lawful : Lawful e f) (spelt : s ≡ spell f) where
+module _ {e : ℕ} {s p : List ℕ} {f : Format} (settled : Settled e s p f) where
   -- the head alone is the program without blocks
-  pub head-tape : TapeOf e s [] headRows
+  pub head-tape : TapeOf e s p [] headRows
   head-tape =
       record {
         format = f;
-        lawful = lawful;
-        spelt = spelt;
+        settled = settled;
         passes = punched-pass (37 ∷ 10 ∷ []) (tt, (tt, tt)) (lit≤ tt);
         stands = rw (punched-kept (37 ∷ 10 ∷ []) (tt, (tt, tt)) 0) (program lf none);
       }
 
-  pub punched-tape : (bs : List Block) → Every (λ b. recordFits f b ≡ taken tt) bs → length (punchedTape f bs) ≤ limit → TapeOf e s (map cleared bs) (punchedTape f bs)
-  punched-tape bs fits short = blocks-appended e s f (ap (parsed e) spelt ∙ complete lawful) bs head-tape fits short
+  pub punched-tape : (bs : List Block) → Every (λ b. recordFits f b ≡ taken tt) bs → length (punchedTape f bs) ≤ limit → TapeOf e s p (map cleared bs) (punchedTape f bs)
+  punched-tape bs fits short = blocks-appended e s p f (settled-exactly e s p f .1 settled) bs head-tape fits short
 
   -- a head and any number of blocks punched behind it read back as those blocks
   pub punched-read : (bs : List Block) → Every (λ b. recordFits f b ≡ taken tt) bs → length (punchedTape f bs) ≤ limit
-      → (es : List Entry) × (readUnder e s (punchedTape f bs) ≡ taken es) × (blocksOf es ≡ map cleared bs)
-  punched-read bs fits short = tape-read e s (punchedTape f bs) (map cleared bs) (punched-tape bs fits short)
+      → (es : List Entry) × (readUnder e s p (punchedTape f bs) ≡ taken es) × (blocksOf es ≡ map cleared bs)
+  punched-read bs fits short = tape-read e s p (punchedTape f bs) (map cleared bs) (punched-tape bs fits short)
 
--- what is punched for a block under an edition and a shorthand, behind any tape accepted under them, reads back behind the old blocks
-pub punched-back : (e : ℕ) (s : List ℕ) (b : Block) (buffer r t : List ℕ) (es : List Entry) → blockPunched e s b buffer ≡ taken r → readUnder e s t ≡ taken es → length (t ++ r) ≤ limit
-    → (es′ : List Entry) × (readUnder e s (t ++ r) ≡ taken es′) × (blocksOf es′ ≡ blocksOf es ++ (cleared b ∷ []))
-punched-back e s b buffer r t es q accepted short =
-    let w = block-written e s b buffer r q in
-    rw (w .fitted .rows) (read-appended e s (w .format) (w .parses) t es b accepted (w .fitted .fits) (rw (w .fitted .rows) at short))
+-- what is punched for a block under an edition, a shorthand and a profile, behind any tape accepted under them, reads back behind the old blocks
+pub punched-back : (e : ℕ) (s p : List ℕ) (b : Block) (buffer r t : List ℕ) (es : List Entry) → blockPunched e s p b buffer ≡ taken r → readUnder e s p t ≡ taken es → length (t ++ r) ≤ limit
+    → (es′ : List Entry) × (readUnder e s p (t ++ r) ≡ taken es′) × (blocksOf es′ ≡ blocksOf es ++ (cleared b ∷ []))
+punched-back e s p b buffer r t es q accepted short =
+    let w = block-written e s p b buffer r q in
+    rw (w .fitted .rows) (read-appended e s p (w .format) (w .agrees) t es b accepted (w .fitted .fits) (rw (w .fitted .rows) at short))

@@ -2,7 +2,7 @@
 use Prim.Native.Nat.{ℕ, suc, _+_, _^_, _≤_, _<_}
 use mathlib.Core.Path.{_≡_, refl, sym, subst}
 use mathlib.Core.Bool.{Bool, true, false, _&&_, not, cond}
-use mathlib.Core.List.{List, [], _∷_, _++_, append-nil}
+use mathlib.Core.List.{List, [], _∷_, _++_, append-nil, append-assoc}
 use native.Mathlib.Omega.{arith}
 use lib.Dec.{T, eqb, leb, ltb}
 use lib.IntN.{ℤ, pos, negsuc, natAbs}
@@ -21,7 +21,7 @@ use Rattle.shorthand.specs.declared.Kind.{Kind}
 use Rattle.shorthand.specs.declared.Kind.the-variants.{Plain}
 use Rattle.shorthand.specs.declared.Item.{Item}
 use Rattle.shorthand.specs.declared.Format.{Format}
-use Rattle.shorthand.specs.Layout.{itemsOf, width, Sign, barred, required, optional, signOf}
+use Rattle.shorthand.specs.Layout.{itemsOf, width, Way, wayOf, Sign, barred, required, optional, signOf}
 use Rattle.shorthand.specs.Facts.{Widths, Fair, more, Facts}
 use Rattle.words.specs.declared.Value.{Value}
 use Rattle.words.specs.declared.Value.the-variants.{Number}
@@ -56,18 +56,18 @@ both false b e = let z : _≡_ {A = ℕ} 0 1 = cc in absurd (omega arith)
 
 -- ---- words at their items
 
-abbrev Stand : Bool → List Item → List Word → Type 0
-Stand tabs its ws = Fair its → Words tabs its ws (wordRows tabs its ws)
+abbrev Stand : Way → List Item → List Word → Type 0
+Stand y its ws = Fair its → Words y its ws (wordRows y its ws)
 
-at-item : (tabs : Bool) (it : Item) (its : List Item) (w : Word) (ws : List Word) → w .letter ≡ it .letter → (Widths (it .kind) → Data (it .kind) (w .value) (dataRows (it .kind) (w .value)))
-    → Stand tabs its ws → Fair (it ∷ its) → Words tabs (it ∷ its) (w ∷ ws) (tab tabs ++ (address it ++ (dataRows (it .kind) (w .value) ++ wordRows tabs its ws)))
-at-item tabs it its w ws e d h (more l width new fair) =
-    subst (λ (c : ℕ). Words tabs (it ∷ its) (record { letter = c; value = w .value } ∷ ws) (tab tabs ++ (address it ++ (dataRows (it .kind) (w .value) ++ wordRows tabs its ws))))
+at-item : (y : Way) (it : Item) (its : List Item) (w : Word) (ws : List Word) → w .letter ≡ it .letter → (Widths (it .kind) → Data (it .kind) (w .value) (dataRows (it .kind) (w .value)))
+    → Stand y its ws → Fair (it ∷ its) → Words y (it ∷ its) (w ∷ ws) (tab y ++ (address y it ++ (dataRows (it .kind) (w .value) ++ wordRows y its ws)))
+at-item y it its w ws e d h (more l width new fair) =
+    subst (λ (c : ℕ). Words y (it ∷ its) (record { letter = c; value = w .value } ∷ ws) (tab y ++ (address y it ++ (dataRows (it .kind) (w .value) ++ wordRows y its ws))))
     (sym e)
-    (here (word (d width)) (h fair))
+    (rw (← append-assoc (address y it) (dataRows (it .kind) (w .value)) (wordRows y its ws)) (here (word (d width)) (h fair)))
 
-past-item : (tabs : Bool) (it : Item) (its : List Item) (ws : List Word) → Stand tabs its ws → Fair (it ∷ its) → Words tabs (it ∷ its) ws (tab tabs ++ wordRows tabs its ws)
-past-item tabs it its ws h (more l width new fair) = out (h fair)
+past-item : (y : Way) (it : Item) (its : List Item) (ws : List Word) → Stand y its ws → Fair (it ∷ its) → Words y (it ∷ its) ws (tab y ++ wordRows y its ws)
+past-item y it its ws h (more l width new fair) = out (h fair)
 
 -- ---- a refusal, or what stands
 
@@ -104,26 +104,26 @@ module _ {Q : ℕ → ℕ → Type 0} where
   value-fits i q (Kind.Dimension d) (Value.Speed v) = refusal (q 16 tt)
 
   -- the word w at the item it, with what holds of the words behind it, or of it and them at the later items
-  next-word : (tabs : Bool) (i : ℕ) (it : Item) (its : List Item) (w : Word) (ws : List Word) → ((n : ℕ) → WordRefusal n → Q n i)
-      → Holds Q (λ _. Stand tabs its ws) (wordsFit (suc i) its ws) → Holds Q (λ _. Stand tabs its (w ∷ ws)) (wordsFit i its (w ∷ ws)) → (x : Bool) → eqb (w .letter) (it .letter) ≡ x
+  next-word : (y : Way) (i : ℕ) (it : Item) (its : List Item) (w : Word) (ws : List Word) → ((n : ℕ) → WordRefusal n → Q n i)
+      → Holds Q (λ _. Stand y its ws) (wordsFit (suc i) its ws) → Holds Q (λ _. Stand y its (w ∷ ws)) (wordsFit i its (w ∷ ws)) → (x : Bool) → eqb (w .letter) (it .letter) ≡ x
       → Holds Q
       (λ _. Fair (it ∷ its)
-      → Words tabs (it ∷ its) (w ∷ ws) (tab tabs ++ cond x (address it ++ (dataRows (it .kind) (w .value) ++ wordRows tabs its ws)) (wordRows tabs its (w ∷ ws))))
+      → Words y (it ∷ its) (w ∷ ws) (tab y ++ cond x (address y it ++ (dataRows (it .kind) (w .value) ++ wordRows y its ws)) (wordRows y its (w ∷ ws))))
       (cond x (valueFits i (it .kind) (w .value) >> wordsFit (suc i) its ws) (wordsFit i its (w ∷ ws)))
-  next-word tabs i it its w ws q behind later true e =
-      fits-then (value-fits i q (it .kind) (w .value)) (λ d. holds-map (λ _ h. at-item tabs it its w ws (eqb-true _ _ e) d h) behind)
-  next-word tabs i it its w ws q behind later false e = holds-map (λ _ h. past-item tabs it its (w ∷ ws) h) later
+  next-word y i it its w ws q behind later true e =
+      fits-then (value-fits i q (it .kind) (w .value)) (λ d. holds-map (λ _ h. at-item y it its w ws (eqb-true _ _ e) d h) behind)
+  next-word y i it its w ws q behind later false e = holds-map (λ _ h. past-item y it its (w ∷ ws) h) later
 
   -- words among the items still to come, the first of them word i
-  words-fit : (tabs : Bool) (i : ℕ) (its : List Item) (ws : List Word) → ((n p : ℕ) → WordRefusal n → i ≤ p → p < i + length ws → Q n p)
-      → Holds Q (λ _. Stand tabs its ws) (wordsFit i its ws)
+  words-fit : (y : Way) (i : ℕ) (its : List Item) (ws : List Word) → ((n p : ℕ) → WordRefusal n → i ≤ p → p < i + length ws → Q n p)
+      → Holds Q (λ _. Stand y its ws) (wordsFit i its ws)
   unfolding wordRows wordsFit
-  words-fit tabs i its [] q = value (λ fair. done)
-  words-fit tabs i [] (w ∷ ws) q = refusal (q 16 i tt (omega arith) (omega arith))
-  words-fit tabs i (it ∷ its) (w ∷ ws) q =
-      next-word tabs i it its w ws (λ n h. q n i h (omega arith) (omega arith))
-      (words-fit tabs (suc i) its ws (λ n p h l m. q n p h (omega arith) (omega arith)))
-      (words-fit tabs i its (w ∷ ws) q)
+  words-fit y i its [] q = value (λ fair. done)
+  words-fit y i [] (w ∷ ws) q = refusal (q 16 i tt (omega arith) (omega arith))
+  words-fit y i (it ∷ its) (w ∷ ws) q =
+      next-word y i it its w ws (λ n h. q n i h (omega arith) (omega arith))
+      (words-fit y (suc i) its ws (λ n p h l m. q n p h (omega arith) (omega arith)))
+      (words-fit y i its (w ∷ ws) q)
       (eqb (w .letter) (it .letter))
       refl
 
@@ -143,7 +143,7 @@ record-fits f b =
     fits-then (tested (ltb (b .sequence) (10 ^ f .sequence)) 17 0 (λ e. unnumbered few (ltb-false _ _ e)))
     (λ s. holds-map
     (λ _ h facts. block (b .skip) (b .alignment) (ltb-true _ _ s) (h (facts .fair)) lf)
-    (words-fit (f .dots) 1 (itemsOf f) (wordsOf b) (λ n p h l m. at-word few h l (omega (arith, simp length-take at m))))))
+    (words-fit (wayOf f) 1 (itemsOf f) (wordsOf b) (λ n p h l m. at-word few h l (omega (arith, simp length-take at m))))))
 
 -- the rows of a record that no row of the table refuses stand as that record with its unused places cleared
 pub punched-stands : (f : Format) → Facts f → (b : Block) → recordFits f b ≡ taken tt → Blocked f (cleared b) (blockChars f b)

@@ -10,7 +10,7 @@ use borrow.Author.Tests.{leb-true, leb-false, le-leb}
 use Rattle.rows.specs.Answer.{Answer, taken, refused, _>>=_, _>>_}
 use Rattle.rows.proofs.Outcomes.{Holds, refusal, value, holds-cond, of-taken, of-refused}
 use Rattle.shorthand.specs.declared.Format.{Format}
-use Rattle.shorthand.specs.Parse.{parsed}
+use Rattle.profile.specs.Answers.{agreed}
 use Rattle.reading.specs.declared.Block.{Block}
 use Rattle.punching.specs.Rows.{rowsOf}
 use Rattle.punching.specs.Fits.{Fit, recordFits}
@@ -49,16 +49,16 @@ module _ (f : Format) (b : Block) (buffer : List ℕ) where
   unfolding blockFor
   punched-exactly = (λ e. let p = punched-only (rowsOf f b) e in (p .fits, p .room), λ h. rw (h .0, le-leb _ _ (h .1)))
 
--- under an edition and a shorthand
-pub record Written (e : ℕ) (s : List ℕ) (b : Block) (buffer r : List ℕ) : Type 0 where
+-- under an edition, a shorthand and a profile
+pub record Written (e : ℕ) (s p : List ℕ) (b : Block) (buffer r : List ℕ) : Type 0 where
   pub format : Format
-  pub parses : parsed e s ≡ taken format
+  pub agrees : agreed e s p ≡ taken format
   pub fitted : Fitted format b buffer r
 
-pub block-written : (e : ℕ) (s : List ℕ) (b : Block) (buffer r : List ℕ) → blockPunched e s b buffer ≡ taken r → Written e s b buffer r
+pub block-written : (e : ℕ) (s p : List ℕ) (b : Block) (buffer r : List ℕ) → blockPunched e s p b buffer ≡ taken r → Written e s p b buffer r
 unfolding blockPunched
-block-written e s b buffer r q = go (parsed e s) refl q
+block-written e s p b buffer r q = go (agreed e s p) refl q
   where
-    go : (a : Answer Format) → parsed e s ≡ a → (a >>= λ f. blockFor f b buffer) ≡ taken r → Written e s b buffer r
-    go (taken f) p h = record { format = f; parses = p; fitted = punched-only f b buffer r h }
-    go (refused n k) p h = let z : _≡_ {A = ℕ} 0 1 = cc in absurd (omega arith)
+    go : (a : Answer Format) → agreed e s p ≡ a → (a >>= λ f. blockFor f b buffer) ≡ taken r → Written e s p b buffer r
+    go (taken f) k h = record { format = f; agrees = k; fitted = punched-only f b buffer r h }
+    go (refused n k) i h = let z : _≡_ {A = ℕ} 0 1 = cc in absurd (omega arith)

@@ -11,8 +11,8 @@ use lib.ListN.{length, take, drop, set, length-append}
 use lib.Seq.{length-take-le, take-length}
 use Rattle.rows.specs.Answer.{Answer, taken, refused, refusal, void, valueOr, _>>=_, _>>_}
 use Rattle.shorthand.specs.declared.Format.{Format}
-use Rattle.shorthand.specs.Layout.{itemsOf, emptyFormat}
-use Rattle.shorthand.specs.Parse.{parsed}
+use Rattle.shorthand.specs.Layout.{itemsOf, wayOf, emptyFormat}
+use Rattle.profile.specs.Answers.{agreed}
 use Rattle.reading.specs.declared.Block.{Block}
 use Rattle.reading.specs.Record.{wordsOf}
 use Rattle.reading.specs.Relation.{skipRows, sequenceRows}
@@ -45,7 +45,7 @@ module _ (f : Format) (b : Block) where
   start = skipRows (b .skip) ++ sequenceRows (f .sequence) (b .alignment) (b .sequence)
 
   abbrev words : Answer (List ℕ)
-  words = wordsFor 1 (f .dots) (itemsOf f) (wordsOf b)
+  words = wordsFor 1 (wayOf f) (itemsOf f) (wordsOf b)
 
   pub too-many : 22 < b .count → rowsFor f b ≡ refused 16 23
   unfolding recordFits
@@ -66,7 +66,7 @@ module _ (f : Format) (b : Block) where
       refusing (refused m r) p xs ys n q e = sym e
 
       pub words-refused : (n q : ℕ) → refused n q ≡ behind (joined [] start) words → rowsFor f b ≡ refused n q
-      words-refused n q e = by-words ∙ refusing (wordsFit 1 (itemsOf f) (wordsOf b)) (joined [] start) (wordRows (f .dots) (itemsOf f) (wordsOf b)) (rowsOf f b) n q e
+      words-refused n q e = by-words ∙ refusing (wordsFit 1 (itemsOf f) (wordsOf b)) (joined [] start) (wordRows (wayOf f) (itemsOf f) (wordsOf b)) (rowsOf f b) n q e
 
       taking : (a : Answer (Unit {0})) (p xs ys r : List ℕ) → taken r ≡ behind p (a >> taken xs) → ys ≡ joined (joined p xs) (10 ∷ []) → a >> taken ys ≡ taken (joined r (10 ∷ []))
       taking (taken tt) p xs ys r e h = let g : r ≡ joined p xs = cc in ap taken (h ∙ ap (λ t. joined t (10 ∷ [])) (sym g))
@@ -75,7 +75,7 @@ module _ (f : Format) (b : Block) where
       pub words-put : (r : List ℕ) → taken r ≡ behind (joined [] start) words → rowsFor f b ≡ taken (joined r (10 ∷ []))
       unfolding blockChars
       words-put r e =
-          let w = wordRows (f .dots) (itemsOf f) (wordsOf b) in
+          let w = wordRows (wayOf f) (itemsOf f) (wordsOf b) in
           by-words
           ∙ taking (wordsFit 1 (itemsOf f) (wordsOf b)) (joined [] start) w (rowsOf f b) r e
           (in-turn (skipRows (b .skip)) (sequenceRows (f .sequence) (b .alignment) (b .sequence)) w (10 ∷ []))
@@ -131,21 +131,21 @@ module _ (buffer : List ℕ) where
         (rw (q, k), rw (q, k))
     finds-room l (Grown.Refused r) e s h = leaves (blockFor f b buffer) (r .number) (r .place) (block-refused (r .number) (r .place) e)
 
-  -- ---- under an edition and a shorthand
+  -- ---- under an edition, a shorthand and a profile
 
-  module _ (e : ℕ) (s : List ℕ) (b : Block) where
+  module _ (e : ℕ) (s p : List ℕ) (b : Block) where
     accepted : (f : Format) (a : Answer Format) → f ≡ valueOr emptyFormat a → void a ≡ taken tt → a >>= (λ g. blockFor g b buffer) ≡ blockFor f b buffer
     accepted f (taken g) q h = ap (λ x. blockFor x b buffer) (sym q)
-    accepted f (refused n p) q h = cc
+    accepted f (refused n k) q h = cc
 
-    pub under : (f : Format) → f ≡ valueOr emptyFormat (parsed e s) → void (parsed e s) ≡ taken tt → blockPunched e s b buffer ≡ blockFor f b buffer
+    pub under : (f : Format) → f ≡ valueOr emptyFormat (agreed e s p) → void (agreed e s p) ≡ taken tt → blockPunched e s p b buffer ≡ blockFor f b buffer
     unfolding blockPunched
-    under f q h = accepted f (parsed e s) q h
+    under f q h = accepted f (agreed e s p) q h
 
-    barred : (a : Answer Format) (n p : ℕ) → void a ≡ refused n p → a >>= (λ g. blockFor g b buffer) ≡ refused n p
-    barred (taken g) n p h = cc
-    barred (refused m q) n p h = let k : m ≡ n = cc in let l : q ≡ p = cc in rw (k, l)
+    barred : (a : Answer Format) (n k : ℕ) → void a ≡ refused n k → a >>= (λ g. blockFor g b buffer) ≡ refused n k
+    barred (taken g) n k h = cc
+    barred (refused m q) n k h = let i : m ≡ n = cc in let j : q ≡ k = cc in rw (i, j)
 
-    pub under-refused : (n p : ℕ) → void (parsed e s) ≡ refused n p → blockPunched e s b buffer ≡ refused n p
+    pub under-refused : (n k : ℕ) → void (agreed e s p) ≡ refused n k → blockPunched e s p b buffer ≡ refused n k
     unfolding blockPunched
-    under-refused n p h = barred (parsed e s) n p h
+    under-refused n k h = barred (agreed e s p) n k h

@@ -2,7 +2,7 @@
 use Prim.Native.Nat.{ℕ, zero, suc, _+_, _≤_, _<_}
 use mathlib.Core.Path.{_≡_, refl, sym, ap, _∙_}
 use mathlib.Core.Bool.{Bool, true, false, _||_, cond}
-use mathlib.Core.List.{List, [], _∷_, _++_}
+use mathlib.Core.List.{List, [], _∷_, _++_, append-assoc}
 use native.Mathlib.Nat.{le-of-suc-le-suc, not-suc-le-zero}
 use native.Mathlib.Numerals.{add-one}
 use native.Mathlib.Omega.{arith}
@@ -15,7 +15,7 @@ use Rattle.shorthand.specs.declared.Item.{Item}
 use Rattle.shorthand.specs.declared.Format.{Format}
 use Rattle.shorthand.specs.Edition.{letters, anyOf}
 use Rattle.shorthand.specs.Layout as layout
-use Rattle.shorthand.specs.Layout.{itemsOf}
+use Rattle.shorthand.specs.Layout.{itemsOf, Way, wayOf}
 use Rattle.shorthand.specs.Facts.{Fair, none, more, Facts}
 use Rattle.words.specs.declared.Word.{Word}
 use Rattle.reading.specs.declared.Block.{Block}
@@ -66,47 +66,47 @@ module _ (b : Block) (long : length (b .words) ≡ 22) (few : b .count ≤ 22) w
 
 -- ---- an item and a word
 
-module _ (p : List ℕ) (i : ℕ) (tabs : Bool) (it : Item) (its : List Item) (w : Word) (ws : List Word) where
-  pub left-out : (w .letter ≡ it .letter → ⊥) → behind p (wordsFor i tabs (it ∷ its) (w ∷ ws)) ≡ behind (joined p (tab tabs)) (wordsFor i tabs its (w ∷ ws))
+module _ (p : List ℕ) (i : ℕ) (y : Way) (it : Item) (its : List Item) (w : Word) (ws : List Word) where
+  pub left-out : (w .letter ≡ it .letter → ⊥) → behind p (wordsFor i y (it ∷ its) (w ∷ ws)) ≡ behind (joined p (tab y)) (wordsFor i y its (w ∷ ws))
   unfolding wordsFit wordRows
-  left-out n = rw (ne-eqb (w .letter) (it .letter) n) (judged-more p (tab tabs) (wordRows tabs its (w ∷ ws)) (wordsFit i its (w ∷ ws)))
+  left-out n = rw (ne-eqb (w .letter) (it .letter) n) (judged-more p (tab y) (wordRows y its (w ∷ ws)) (wordsFit i its (w ∷ ws)))
 
-  put-in : (a b : Answer (Unit {0})) (xs ys q : List ℕ) → taken q ≡ behind (joined p (tab tabs)) (a >> taken xs) → behind p ((a >> b) >> taken (tab tabs ++ (xs ++ ys))) ≡ behind q (b >> taken ys)
+  put-in : (a b : Answer (Unit {0})) (xs ys q : List ℕ) → taken q ≡ behind (joined p (tab y)) (a >> taken xs) → behind p ((a >> b) >> taken (tab y ++ (xs ++ ys))) ≡ behind q (b >> taken ys)
   put-in (taken tt) b xs ys q e =
-      let r : q ≡ joined (joined p (tab tabs)) xs = cc in
-      judged-more p (tab tabs) (xs ++ ys) b ∙ judged-more (joined p (tab tabs)) xs ys b ∙ ap (λ s. behind s (b >> taken ys)) (sym r)
+      let r : q ≡ joined (joined p (tab y)) xs = cc in
+      judged-more p (tab y) (xs ++ ys) b ∙ judged-more (joined p (tab y)) xs ys b ∙ ap (λ s. behind s (b >> taken ys)) (sym r)
   put-in (refused n m) b xs ys q e = let z : _≡_ {A = ℕ} 0 1 = cc in absurd (omega arith)
 
-  turned : (a b : Answer (Unit {0})) (xs ys : List ℕ) (n m : ℕ) → refused n m ≡ behind (joined p (tab tabs)) (a >> taken xs) → behind p ((a >> b) >> taken ys) ≡ refused n m
+  turned : (a b : Answer (Unit {0})) (xs ys : List ℕ) (n m : ℕ) → refused n m ≡ behind (joined p (tab y)) (a >> taken xs) → behind p ((a >> b) >> taken ys) ≡ refused n m
   turned (taken tt) b xs ys n m e = let z : _≡_ {A = ℕ} 0 1 = cc in absurd (omega arith)
   turned (refused k l) b xs ys n m e = sym e
 
   module _ (same : w .letter ≡ it .letter) where
-    pub put-here : (q : List ℕ) → taken q ≡ behind (joined p (tab tabs)) (wordFor i it (w .value)) → behind p (wordsFor i tabs (it ∷ its) (w ∷ ws)) ≡ behind q (wordsFor (i + 1) tabs its ws)
+    pub put-here : (q : List ℕ) → taken q ≡ behind (joined p (tab y)) (wordFor i y it (w .value)) → behind p (wordsFor i y (it ∷ its) (w ∷ ws)) ≡ behind q (wordsFor (i + 1) y its ws)
     unfolding wordsFit wordRows
     put-here q e =
-        rw (eq-eqb (w .letter) (it .letter) same, add-one)
-        (put-in (valueFits i (it .kind) (w .value)) (wordsFit (suc i) its ws) (address it ++ dataRows (it .kind) (w .value)) (wordRows tabs its ws) q e)
+        rw (eq-eqb (w .letter) (it .letter) same, add-one, ← append-assoc (address y it) (dataRows (it .kind) (w .value)) (wordRows y its ws))
+        (put-in (valueFits i (it .kind) (w .value)) (wordsFit (suc i) its ws) (address y it ++ dataRows (it .kind) (w .value)) (wordRows y its ws) q e)
 
-    pub turned-away : (n m : ℕ) → refused n m ≡ behind (joined p (tab tabs)) (wordFor i it (w .value)) → behind p (wordsFor i tabs (it ∷ its) (w ∷ ws)) ≡ refused n m
+    pub turned-away : (n m : ℕ) → refused n m ≡ behind (joined p (tab y)) (wordFor i y it (w .value)) → behind p (wordsFor i y (it ∷ its) (w ∷ ws)) ≡ refused n m
     unfolding wordsFit wordRows
     turned-away n m e =
         rw (eq-eqb (w .letter) (it .letter) same)
-        (turned (valueFits i (it .kind) (w .value)) (wordsFit (suc i) its ws) (address it ++ dataRows (it .kind) (w .value)) (tab tabs ++ ((address it ++ dataRows (it .kind) (w .value)) ++ wordRows tabs its ws)) n m e)
+        (turned (valueFits i (it .kind) (w .value)) (wordsFit (suc i) its ws) (address y it ++ dataRows (it .kind) (w .value)) (tab y ++ (address y it ++ (dataRows (it .kind) (w .value) ++ wordRows y its ws))) n m e)
 
-pub none-left : (p : List ℕ) (i : ℕ) (tabs : Bool) (its : List Item) → behind p (wordsFor i tabs its []) ≡ taken p
+pub none-left : (p : List ℕ) (i : ℕ) (y : Way) (its : List Item) → behind p (wordsFor i y its []) ≡ taken p
 unfolding wordsFit wordRows
-none-left p i tabs its = ap taken (joined-none p)
+none-left p i y its = ap taken (joined-none p)
 
-pub no-item : (p : List ℕ) (i : ℕ) (tabs : Bool) (w : Word) (ws : List Word) → behind p (wordsFor i tabs [] (w ∷ ws)) ≡ refused 16 i
+pub no-item : (p : List ℕ) (i : ℕ) (y : Way) (w : Word) (ws : List Word) → behind p (wordsFor i y [] (w ∷ ws)) ≡ refused 16 i
 unfolding wordsFit wordRows
-no-item p i tabs w ws = refl
+no-item p i y w ws = refl
 
 -- ---- one turn of the walk over a Format's items and a block's words
 
 -- what there is to come from item k and word i on, behind the rows p
 abbrev pub toCome : Format → Block → List ℕ → ℕ → ℕ → Answer (List ℕ)
-toCome f b p k i = behind p (wordsFor (i + 1) (f .dots) (drop k (itemsOf f)) (drop i (wordsOf b)))
+toCome f b p k i = behind p (wordsFor (i + 1) (wayOf f) (drop k (itemsOf f)) (drop i (wordsOf b)))
 
 module _ (f : Format) (h : Facts f) (b : Block) (long : length (b .words) ≡ 22) (few : b .count ≤ 22) (p : List ℕ) (k i : ℕ) where
   abbrev itemNow : Item
@@ -116,19 +116,19 @@ module _ (f : Format) (h : Facts f) (b : Block) (long : length (b .words) ≡ 22
   wordNow = getD (b .words) i blank
 
   pub over : b .count ≤ i → toCome f b p k i ≡ taken p
-  over l = rw (words-end b long few i l) (none-left p (i + 1) (f .dots) (drop k (itemsOf f)))
+  over l = rw (words-end b long few i l) (none-left p (i + 1) (wayOf f) (drop k (itemsOf f)))
 
   module _ (m : i < b .count) where
     pub items-over : f .count ≤ k → toCome f b p k i ≡ refused 16 (i + 1)
-    items-over l = rw (items-end f h k l, word-at b long few i m) (no-item p (i + 1) (f .dots) wordNow (drop (i + 1) (wordsOf b)))
+    items-over l = rw (items-end f h k l, word-at b long few i m) (no-item p (i + 1) (wayOf f) wordNow (drop (i + 1) (wordsOf b)))
 
     module _ (l : k < f .count) where
-      pub turn-out : (wordNow .letter ≡ itemNow .letter → ⊥) → toCome f b p k i ≡ toCome f b (joined p (tab (f .dots))) (k + 1) i
-      turn-out n = rw (item-at f h k l, word-at b long few i m) (left-out p (i + 1) (f .dots) itemNow (drop (k + 1) (itemsOf f)) wordNow (drop (i + 1) (wordsOf b)) n)
+      pub turn-out : (wordNow .letter ≡ itemNow .letter → ⊥) → toCome f b p k i ≡ toCome f b (joined p (tab (wayOf f))) (k + 1) i
+      turn-out n = rw (item-at f h k l, word-at b long few i m) (left-out p (i + 1) (wayOf f) itemNow (drop (k + 1) (itemsOf f)) wordNow (drop (i + 1) (wordsOf b)) n)
 
       module _ (same : wordNow .letter ≡ itemNow .letter) where
-        pub turn-in : (q : List ℕ) → taken q ≡ behind (joined p (tab (f .dots))) (wordFor (i + 1) itemNow (wordNow .value)) → toCome f b p k i ≡ toCome f b q (k + 1) (i + 1)
-        turn-in q e = rw (item-at f h k l, word-at b long few i m) (put-here p (i + 1) (f .dots) itemNow (drop (k + 1) (itemsOf f)) wordNow (drop (i + 1) (wordsOf b)) same q e)
+        pub turn-in : (q : List ℕ) → taken q ≡ behind (joined p (tab (wayOf f))) (wordFor (i + 1) (wayOf f) itemNow (wordNow .value)) → toCome f b p k i ≡ toCome f b q (k + 1) (i + 1)
+        turn-in q e = rw (item-at f h k l, word-at b long few i m) (put-here p (i + 1) (wayOf f) itemNow (drop (k + 1) (itemsOf f)) wordNow (drop (i + 1) (wordsOf b)) same q e)
 
-        pub turn-away : (n q : ℕ) → refused n q ≡ behind (joined p (tab (f .dots))) (wordFor (i + 1) itemNow (wordNow .value)) → toCome f b p k i ≡ refused n q
-        turn-away n q e = rw (item-at f h k l, word-at b long few i m) (turned-away p (i + 1) (f .dots) itemNow (drop (k + 1) (itemsOf f)) wordNow (drop (i + 1) (wordsOf b)) same n q e)
+        pub turn-away : (n q : ℕ) → refused n q ≡ behind (joined p (tab (wayOf f))) (wordFor (i + 1) (wayOf f) itemNow (wordNow .value)) → toCome f b p k i ≡ refused n q
+        turn-away n q e = rw (item-at f h k l, word-at b long few i m) (turned-away p (i + 1) (wayOf f) itemNow (drop (k + 1) (itemsOf f)) wordNow (drop (i + 1) (wordsOf b)) same n q e)

@@ -1,4 +1,4 @@
--- What punching answers and leaves in the buffer: 1, 2 and 3, the record, then 19 (document 01, "Refusal numbers").
+-- What punching answers and leaves in the buffer: 1, 2 and 3, 22 and 23, the record, then 19 (documents 01, "Refusal numbers", and 02, 2/12).
 use Prim.Native.Nat.{ℕ}
 use mathlib.Core.Bool.{cond}
 use mathlib.Core.List.{List, _++_}
@@ -6,7 +6,7 @@ use lib.Dec.{leb}
 use lib.ListN.{length, drop}
 use Rattle.rows.specs.Answer.{Answer, taken, refused, refusal, _>>=_, _>>_}
 use Rattle.shorthand.specs.declared.Format.{Format}
-use Rattle.shorthand.specs.Parse.{parsed}
+use Rattle.profile.specs.Answers.{agreed}
 use Rattle.reading.specs.declared.Block.{Block}
 use Rattle.punching.specs.declared.Punched.{Punched}
 use Rattle.punching.specs.declared.Punched.the-variants.{Rows}
@@ -25,9 +25,9 @@ headPunched buffer = roomFor buffer headRows
 unfoldable pub blockFor : Format → Block → List ℕ → Answer (List ℕ)
 blockFor f b buffer = recordFits f b >> roomFor buffer (rowsOf f b)
 
--- a block under an edition and a shorthand
-unfoldable pub blockPunched : ℕ → List ℕ → Block → List ℕ → Answer (List ℕ)
-blockPunched e s b buffer = parsed e s >>= λ f. blockFor f b buffer
+-- a block under an edition, a shorthand and a profile
+unfoldable pub blockPunched : ℕ → List ℕ → List ℕ → Block → List ℕ → Answer (List ℕ)
+blockPunched e s p b buffer = agreed e s p >>= λ f. blockFor f b buffer
 
 -- the number of rows written
 abbrev pub written : Answer (List ℕ) → Answer ℕ

@@ -1,13 +1,13 @@
 -- The line that a block's rows are composed in before the buffer is touched: what a put adds to it, and what each step of the punch answers.
 use Prim.Native.Nat.{ℕ, _+_}
 use mathlib.Core.Path.{_≡_}
-use mathlib.Core.Bool.{Bool}
 use mathlib.Core.List.{List, _++_, map}
 use lib.ListN.{length, take}
 use Rattle.rows.specs.Answer.{Answer, taken, refusal, _>>=_, _>>_}
 use Rattle.shorthand.specs.declared.Kind.{Kind}
 use Rattle.shorthand.specs.declared.Item.{Item}
 use Rattle.shorthand.specs.declared.Format.{Format}
+use Rattle.shorthand.specs.Layout.{Way}
 use Rattle.words.specs.declared.Value.{Value}
 use Rattle.words.specs.declared.Word.{Word}
 use Rattle.reading.specs.declared.Block.{Block}
@@ -44,11 +44,11 @@ behind p a = a >>= λ cs. taken (joined p cs)
 abbrev pub dataFor : ℕ → Kind → Value → Answer (List ℕ)
 dataFor i k v = valueFits i k v >> taken (dataRows k v)
 
-abbrev pub wordFor : ℕ → Item → Value → Answer (List ℕ)
-wordFor i it v = valueFits i (it .kind) v >> taken (address it ++ dataRows (it .kind) v)
+abbrev pub wordFor : ℕ → Way → Item → Value → Answer (List ℕ)
+wordFor i y it v = valueFits i (it .kind) v >> taken (address y it ++ dataRows (it .kind) v)
 
-abbrev pub wordsFor : ℕ → Bool → List Item → List Word → Answer (List ℕ)
-wordsFor i tabs its ws = wordsFit i its ws >> taken (wordRows tabs its ws)
+abbrev pub wordsFor : ℕ → Way → List Item → List Word → Answer (List ℕ)
+wordsFor i y its ws = wordsFit i its ws >> taken (wordRows y its ws)
 
 abbrev pub rowsFor : Format → Block → Answer (List ℕ)
 rowsFor f b = recordFits f b >> taken (rowsOf f b)

@@ -1,4 +1,5 @@
--- The rows that the punch writes (document 01, "The record", punching): full digits, a sign in every signed item, tabs only up to the last word, even parity.
+-- The rows that the punch writes (document 01, "The record", punching): full digits, a sign in every signed item, tabs only up to the last word,
+-- no addresses where items are known by their tabs alone, even parity.
 use Prim.Native.Nat.{ℕ, _+_}
 use mathlib.Core.Bool.{Bool, true, false, cond}
 use mathlib.Core.List.{List, [], _∷_, _++_, map}
@@ -12,7 +13,7 @@ use Rattle.shorthand.specs.declared.Kind.{Kind}
 use Rattle.shorthand.specs.declared.Kind.the-variants.{Plain}
 use Rattle.shorthand.specs.declared.Item.{Item}
 use Rattle.shorthand.specs.declared.Format.{Format}
-use Rattle.shorthand.specs.Layout.{itemsOf, width, Sign, barred, required, optional, signOf}
+use Rattle.shorthand.specs.Layout.{itemsOf, width, Way, wayOf, Sign, barred, required, optional, signOf}
 use Rattle.words.specs.declared.Value.{Value}
 use Rattle.words.specs.declared.Value.the-variants.{Number}
 use Rattle.words.specs.declared.Word.{Word}
@@ -51,16 +52,16 @@ dataRows (Kind.Dimension d) (Value.Dimension z) = signRows (signOf (Kind.Dimensi
 dataRows (Kind.Dimension d) (Value.Speed v) = []
 
 -- words in the items' order, with tabs up to the last of them
-unfoldable pub wordRows : Bool → List Item → List Word → List ℕ
-wordRows tabs its [] = []
-wordRows tabs [] (w ∷ ws) = []
-wordRows tabs (it ∷ its) (w ∷ ws) =
-    tab tabs ++ cond (eqb (w .letter) (it .letter)) (address it ++ (dataRows (it .kind) (w .value) ++ wordRows tabs its ws)) (wordRows tabs its (w ∷ ws))
+unfoldable pub wordRows : Way → List Item → List Word → List ℕ
+wordRows y its [] = []
+wordRows y [] (w ∷ ws) = []
+wordRows y (it ∷ its) (w ∷ ws) =
+    tab y ++ cond (eqb (w .letter) (it .letter)) (address y it ++ (dataRows (it .kind) (w .value) ++ wordRows y its ws)) (wordRows y its (w ∷ ws))
 
 -- a block's characters, LF for its end
 unfoldable pub blockChars : Format → Block → List ℕ
 blockChars f b =
-    skipRows (b .skip) ++ (sequenceRows (f .sequence) (b .alignment) (b .sequence) ++ (wordRows (f .dots) (itemsOf f) (wordsOf b) ++ (10 ∷ [])))
+    skipRows (b .skip) ++ (sequenceRows (f .sequence) (b .alignment) (b .sequence) ++ (wordRows (wayOf f) (itemsOf f) (wordsOf b) ++ (10 ∷ [])))
 
 -- the rows of a block
 abbrev pub rowsOf : Format → Block → List ℕ

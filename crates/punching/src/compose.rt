@@ -5,7 +5,7 @@ ghost use Prim.Native.Nat.{_+_, _≤_, _<_};
 ghost use lib.ListN.{length, take};
 ghost use Rattle.shorthand.specs.declared.Kind.{Kind};
 ghost use Rattle.shorthand.specs.declared.Kind.the-variants.{Plain};
-ghost use Rattle.shorthand.specs.Layout.{itemsOf, markSign};
+ghost use Rattle.shorthand.specs.Layout.{itemsOf, wayBy, wayOf, markSign};
 ghost use Rattle.shorthand.specs.Facts.{Facts, Widths};
 ghost use Rattle.words.specs.declared.Value.{Value};
 ghost use Rattle.words.specs.Figures.{mayStand};
@@ -14,6 +14,7 @@ ghost use Rattle.punching.specs.Line.{grownTold, endOf, behind, dataFor,
 use crate::Grown;
 use crate::line::magnitude_of;
 use crate::line::put;
+use crate::line::put_address;
 use crate::line::put_digits;
 use crate::line::put_either;
 use crate::line::put_start;
@@ -117,24 +118,33 @@ fn put_data(line: &mut [u8], at: usize, kind: Kind, value: Value, word: usize) -
     }
 }
 
-// Word i of its item: the address, and then the data.
-fn put_word(line: &mut [u8], at: usize, item: Item, value: Value, word: usize) -> Grown
+// Word i of its item: the address where words have one, and then the data.
+fn put_word(
+    line: &mut [u8],
+    at: usize,
+    dots: bool,
+    addresses: bool,
+    item: Item,
+    value: Value,
+    word: usize,
+) -> Grown
     requires { ⌜ (Widths (item .kind)) × (item .letter < 128) × (at + 20 ≤ length (now line)) ⌝ }
-    ensures told { λ r. ⌜ grownTold (now (line .exit)) r ≡ behind (take at (now (line .entry))) (wordFor word item value) ⌝ }
+    ensures told { λ r. ⌜ grownTold (now (line .exit)) r ≡ behind (take at (now (line .entry))) (wordFor word (wayBy dots addresses) item value) ⌝ }
     ensures end { λ r. ⌜ endOf r ≤ at + 20 ⌝ }
 {
     let kind = item.kind;
-    let next = put(line, at, item.letter);
+    let next = put_address(line, at, dots, addresses, item);
     put_data(line, next, kind, value, word)
 }
 
 // The words of a block in the items' order, with tabs up to the last of them.
 fn put_words(line: &mut [u8], start: usize, format: Format, block: Block) -> Grown
     requires { ⌜ (Facts format) × (block .count ≤ 22) × (start ≤ 11) × (474 ≤ length (now line)) ⌝ }
-    ensures told { λ r. ⌜ grownTold (now (line .exit)) r ≡ behind (take start (now (line .entry))) (wordsFor 1 (format .dots) (itemsOf format) (wordsOf block)) ⌝ }
+    ensures told { λ r. ⌜ grownTold (now (line .exit)) r ≡ behind (take start (now (line .entry))) (wordsFor 1 (wayOf format) (itemsOf format) (wordsOf block)) ⌝ }
     ensures end { λ r. ⌜ endOf r ≤ 473 ⌝ }
 {
     let dots = format.dots;
+    let addresses = format.addresses;
     let items = format.count;
     let words = block.count;
     let mut at = start;
@@ -153,7 +163,7 @@ fn put_words(line: &mut [u8], start: usize, format: Format, block: Block) -> Gro
         }
         i += 1;
         let value = word.value;
-        let answer = put_word(line, at, item, value, i);
+        let answer = put_word(line, at, dots, addresses, item, value, i);
         let Grown::To(next) = answer else {
             return answer;
         };

@@ -1,4 +1,4 @@
-// Punching: the tape head, and one block under an edition and a shorthand, into a lent buffer.
+// Punching: the tape head, and one block under an edition, a shorthand and a profile, into a lent buffer.
 ghost use mathlib.Core.Path.{_≡_};
 ghost use Rattle.shorthand.specs.Facts.{Facts};
 ghost use Rattle.punching.specs.Answers.{headPunched, blockFor, blockPunched, written, after, punchedTold};
@@ -84,11 +84,17 @@ fn punch_under(format: Format, block: Block, buffer: &mut [u8]) -> Punched
 }
 
 // One block.
-pub fn punch_block(edition: u32, text: &[u8], block: Block, buffer: &mut [u8]) -> Punched
-    ensures rows { λ r. ⌜ punchedTold r ≡ written (blockPunched edition (now (text .entry)) block (now (buffer .entry))) ⌝ }
-    ensures buffer { λ r. ⌜ now (buffer .exit) ≡ after (now (buffer .entry)) (blockPunched edition (now (text .entry)) block (now (buffer .entry))) ⌝ }
+pub fn punch_block(
+    edition: u32,
+    text: &[u8],
+    profile: &[u8],
+    block: Block,
+    buffer: &mut [u8],
+) -> Punched
+    ensures rows { λ r. ⌜ punchedTold r ≡ written (blockPunched edition (now (text .entry)) (now (profile .entry)) block (now (buffer .entry))) ⌝ }
+    ensures buffer { λ r. ⌜ now (buffer .exit) ≡ after (now (buffer .entry)) (blockPunched edition (now (text .entry)) (now (profile .entry)) block (now (buffer .entry))) ⌝ }
 {
-    let parsed = shorthand::parse(edition, text);
+    let parsed = profile::parse(edition, text, profile);
     let outcome = parsed.outcome;
     let format = parsed.format;
     match outcome {

@@ -1,14 +1,16 @@
 // The line that a block's rows are composed in: each put adds rows behind those that stand, and answers how many there are now.
 ghost use mathlib.Core.Path.{_≡_};
-ghost use mathlib.Core.Bool.{cond};
+ghost use mathlib.Core.Bool.{Bool, cond};
 ghost use mathlib.Core.List.{[], _∷_, _++_};
 ghost use Prim.Native.Nat.{_+_, _^_, _≤_, _<_};
 ghost use lib.IntN.{natAbs};
 ghost use lib.ListN.{length};
-ghost use Rattle.reading.specs.Relation.{digits, tab, skipRows, sequenceRows};
+ghost use Rattle.shorthand.specs.Layout.{wayBy};
+ghost use Rattle.reading.specs.Relation.{digits, address, tab, skipRows, sequenceRows};
 ghost use Rattle.punching.specs.Rows.{rowOf, minus};
 ghost use Rattle.punching.specs.Line.{Put};
 use crate::Magnitude;
+use shorthand::Item;
 
 // A dimension has 18 digits at most.
 const TENS: [u64; 19] = [
@@ -95,9 +97,21 @@ pub fn put_digits(line: &mut [u8], start: usize, n: usize, v: u64) -> usize
 // A tab where the items have dots.
 pub fn put_tab(line: &mut [u8], at: usize, dots: bool) -> usize
     requires { ⌜ at < length (now line) ⌝ }
-    ensures { λ r. ⌜ Put (now (line .entry)) at (tab dots) (now (line .exit)) r ⌝ }
+    ensures { λ r. ⌜ ((addresses : Bool) → Put (now (line .entry)) at (tab (wayBy dots addresses)) (now (line .exit)) r) ⌝ }
 {
     if dots { put(line, at, 9) } else { at }
+}
+
+// The address of an item's word, or nothing where the item is known by its tab alone.
+pub fn put_address(line: &mut [u8], at: usize, dots: bool, addresses: bool, item: Item) -> usize
+    requires { ⌜ (at < length (now line)) × (item .letter < 128) ⌝ }
+    ensures { λ r. ⌜ Put (now (line .entry)) at (address (wayBy dots addresses) item) (now (line .exit)) r ⌝ }
+{
+    if dots && !addresses {
+        at
+    } else {
+        put(line, at, item.letter)
+    }
 }
 
 // "/" or not.

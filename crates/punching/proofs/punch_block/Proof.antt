@@ -1,8 +1,8 @@
--- `punching::punch_block`: by what the shorthand answered.
+-- `punching::punch_block`: by what the shorthand and the profile answered.
 use borrow.Author.Needs.{needs}
 use mathlib.Core.Path.{_∙_, sym, ap}
 use Rattle.rows.specs.Answer.{told}
-use Rattle.reading.proofs.Numbered.{parsed-facts}
+use Rattle.reading.proofs.Numbered.{settled-facts}
 use Rattle.punching.proofs.WholeRecords.{leaves, under, under-refused}
 use Rattle.punching.proofs.punch_block.Statement.{statement}
 use Rattle.punching.proofs.punch_block.Tie as tie
@@ -14,7 +14,7 @@ enum-told : tie.Need-enum-told
 enum-told c = search needs
 
 punch-under-requires : tie.Need-punch-under-requires
-punch-under-requires c κs = parsed-facts _ _ _ (c .before .before .before .before .parse .ensures .1) (sym (c .before .before .before .before .parse .ensures .0) ∙ ap told (c .before .enum-told .given .1))
+punch-under-requires c κs = settled-facts _ _ _ _ (c .before .before .before .before .parse .ensures .1) (sym (c .before .before .before .before .parse .ensures .0) ∙ ap told (c .before .enum-told .given .1))
 
 enum-known-outcome : tie.Need-enum-known-outcome
 enum-known-outcome c = search needs
@@ -23,10 +23,10 @@ same-length : tie.Need-same-length
 same-length c = search needs
 
 returns : tie.Need-returns
-returns c = rw (under (c .before .before .before .before .before .before .before .before .before .before .args .buffer .now) (c .before .before .before .before .before .before .before .before .before .before .args .edition) (c .before .before .before .before .before .before .before .before .before .before .args .text .now) (c .before .before .before .before .before .before .before .before .before .before .args .block) _ (c .before .before .before .before .before .before .before .parse .ensures .1) (sym (c .before .before .before .before .before .before .before .parse .ensures .0) ∙ ap told (c .before .before .before .before .enum-told .given .1))) (c .before .before .punch-under .ensures)
+returns c = rw (under (c .before .before .before .before .before .before .before .before .before .before .before .args .buffer .now) (c .before .before .before .before .before .before .before .before .before .before .before .args .edition) (c .before .before .before .before .before .before .before .before .before .before .before .args .text .now) (c .before .before .before .before .before .before .before .before .before .before .before .args .profile .now) (c .before .before .before .before .before .before .before .before .before .before .before .args .block) _ (c .before .before .before .before .before .before .before .parse .ensures .1) (sym (c .before .before .before .before .before .before .before .parse .ensures .0) ∙ ap told (c .before .before .before .before .enum-told .given .1))) (c .before .before .punch-under .ensures)
 
 returns-2 : tie.Need-returns-2
-returns-2 c = leaves _ _ _ _ (under-refused (c .before .before .before .before .before .before .before .args .buffer .now) (c .before .before .before .before .before .before .before .args .edition) (c .before .before .before .before .before .before .before .args .text .now) (c .before .before .before .before .before .before .before .args .block) _ _ (sym (c .before .before .before .before .parse .ensures .0) ∙ ap told (c .before .outcome .given .1)))
+returns-2 c = leaves _ _ _ _ (under-refused (c .before .before .before .before .before .before .before .before .args .buffer .now) (c .before .before .before .before .before .before .before .before .args .edition) (c .before .before .before .before .before .before .before .before .args .text .now) (c .before .before .before .before .before .before .before .before .args .profile .now) (c .before .before .before .before .before .before .before .before .args .block) _ _ (sym (c .before .before .before .before .parse .ensures .0) ∙ ap told (c .before .outcome .given .1)))
 
 pub punch-block-spec : {M : Type 1} → statement M
 punch-block-spec =

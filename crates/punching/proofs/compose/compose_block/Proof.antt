@@ -4,7 +4,7 @@ use mathlib.Core.Path.{_≡_, _∙_, sym, ap}
 use mathlib.Core.List.{[], _++_}
 use native.Mathlib.Omega.{arith}
 use Rattle.rows.specs.Answer.{taken}
-use Rattle.shorthand.specs.Layout.{itemsOf}
+use Rattle.shorthand.specs.Layout.{itemsOf, wayOf}
 use Rattle.reading.specs.Record.{wordsOf}
 use Rattle.reading.specs.Relation.{skipRows, sequenceRows}
 use Rattle.punching.specs.Line.{joined, grownTold, behind, wordsFor}
@@ -55,10 +55,10 @@ same-length c = search needs
 judged : (c : tie.After-put-words) →
     let a = c .before .before .before .before .before .before .before .before .before .before .before .before .args in
     grownTold (c .put-words .last .0) (c .put-words .result)
-    ≡ behind (joined [] (skipRows (a .block .skip) ++ sequenceRows (a .format .sequence) (a .block .alignment) (a .block .sequence))) (wordsFor 1 (a .format .dots) (itemsOf (a .format)) (wordsOf (a .block)))
+    ≡ behind (joined [] (skipRows (a .block .skip) ++ sequenceRows (a .format .sequence) (a .block .alignment) (a .block .sequence))) (wordsFor 1 (wayOf (a .format)) (itemsOf (a .format)) (wordsOf (a .block)))
 judged c =
     let a = c .before .before .before .before .before .before .before .before .before .before .before .before .args in
-    c .put-words .ensures .0 ∙ ap (λ p. behind p (wordsFor 1 (a .format .dots) (itemsOf (a .format)) (wordsOf (a .block)))) (c .before .before .before .before .put-start .ensures .rows)
+    c .put-words .ensures .0 ∙ ap (λ p. behind p (wordsFor 1 (wayOf (a .format)) (itemsOf (a .format)) (wordsOf (a .block)))) (c .before .before .before .before .put-start .ensures .rows)
 
 returns-3 : tie.Need-returns-3
 returns-3 c =

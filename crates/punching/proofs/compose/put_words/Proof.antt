@@ -6,6 +6,7 @@ use lib.ListN.{length, getD, take, length-map}
 use borrow.Author.Needs.{needs}
 use Rattle.shorthand.proofs.FormatItems.{widths-at}
 use Rattle.shorthand.specs.Layout as layout
+use Rattle.shorthand.specs.Layout.{wayOf}
 use Rattle.reading.specs.Record.{blank}
 use Rattle.reading.specs.Relation.{tab}
 use Rattle.punching.specs.Line.{joined, grownTold, behind, wordFor}
@@ -15,11 +16,11 @@ use Rattle.punching.proofs.compose.put_words.Statement.{statement}
 use Rattle.punching.proofs.compose.put_words.Tie as tie
 
 abbrev Inv-loop : tie.InvT-loop
-Inv-loop line₀ start format block dots items words at₀ i₀ k₀ line at i k =
+Inv-loop line₀ start format block dots addresses items words at₀ i₀ k₀ line at i k =
     (length line ≡ length line₀) × (k ≤ items) × (i ≤ words) × (at ≤ 11 + 21 * k) × (toCome format block (take start line₀) 0 0 ≡ toCome format block (take at line) k i)
 
 abbrev μ-loop : tie.MeasureT-loop
-μ-loop line₀ start format block dots items words at₀ i₀ k₀ line at i k = items - k
+μ-loop line₀ start format block dots addresses items words at₀ i₀ k₀ line at i k = items - k
 
 -- the sums, over numbers alone, so that nothing of what is known at a place is looked through for them
 one-on : {k n : ℕ} → k < n → k + 1 ≤ n
@@ -47,11 +48,11 @@ long c = simp length-map at (c .good .1 .1 .1 .0 .1 .1 .1 .1 .1 .1 .0 .1 .0 .1)
 judged : (c : tie.After-put-word Inv-loop μ-loop) →
     let l = c .before .before .before .before .before .before .before .before .before .before .before .before .before .loop in
     let a = c .before .before .before .before .before .before .before .before .before .before .before .before .before .before .before .args in
-    grownTold (c .put-word .last .0) (c .put-word .result) ≡ behind (joined (take (l .at) (l .line)) (tab (a .t3 .dots))) (wordFor (l .i + 1) (getD (a .t3 .items) (l .k) layout.blank) (getD (a .t4 .words) (l .i) blank .value))
+    grownTold (c .put-word .last .0) (c .put-word .result) ≡ behind (joined (take (l .at) (l .line)) (tab (wayOf (a .t3)))) (wordFor (l .i + 1) (wayOf (a .t3)) (getD (a .t3 .items) (l .k) layout.blank) (getD (a .t4 .words) (l .i) blank .value))
 judged c =
     let l = c .before .before .before .before .before .before .before .before .before .before .before .before .before .loop in
     let a = c .before .before .before .before .before .before .before .before .before .before .before .before .before .before .before .args in
-    c .put-word .ensures .0 ∙ ap (λ p. behind p (wordFor (l .i + 1) (getD (a .t3 .items) (l .k) layout.blank) (getD (a .t4 .words) (l .i) blank .value))) (c .before .before .before .before .before .before .before .put-tab .ensures .rows)
+    c .put-word .ensures .0 ∙ ap (λ p. behind p (wordFor (l .i + 1) (wayOf (a .t3)) (getD (a .t3 .items) (l .k) layout.blank) (getD (a .t4 .words) (l .i) blank .value))) (c .before .before .before .before .before .before .before .put-tab .ensures (a .t3 .addresses) .rows)
 
 loop-holds : tie.Need-loop-holds Inv-loop μ-loop
 loop-holds c = (refl, omega arith, omega arith, omega arith, refl)
@@ -102,9 +103,9 @@ loop-again c =
       c .before .before .before .before .before .put-tab .kept .0 ∙ l .inv .0,
       one-on (c .before .before .before .before .before .before .before .before .before .if1 .left),
       l .inv .2,
-      tab-on (l .k) (l .inv .3) (c .before .before .before .before .before .put-tab .ensures .end) (tab-most (s .args .t3 .dots)),
+      tab-on (l .k) (l .inv .3) (c .before .before .before .before .before .put-tab .ensures (s .args .t3 .addresses) .end) (tab-most (wayOf (s .args .t3))),
       l .inv .4 ∙ turn-out (s .args .t3) (s .pre .0) (s .args .t4) (long s) (s .pre .1) (take (l .at) (l .line)) (l .k) (l .i) (c .before .before .before .before .before .before .before .before .before .before .loop-test .taken) (c .before .before .before .before .before .before .before .before .before .if1 .left) (c .if2 .taken)
-          ∙ ap (λ p. toCome (s .args .t3) (s .args .t4) p (l .k + 1) (l .i)) (sym (c .before .before .before .before .before .put-tab .ensures .rows)),
+          ∙ ap (λ p. toCome (s .args .t3) (s .args .t4) p (l .k + 1) (l .i)) (sym (c .before .before .before .before .before .put-tab .ensures (s .args .t3 .addresses) .rows)),
     )
 
 add-i : tie.Need-add-i Inv-loop μ-loop
@@ -117,7 +118,7 @@ put-word-requires c κs =
     let due : l .k < s .args .t3 .count = c .before .before .before .before .before .before .before .before .before .before .if1 .left in (
       widths-at (s .args .t3) (s .pre .0) (l .k) due,
       letter-at (s .args .t3) (s .pre .0) (l .k) due,
-      word-room (l .inv .3) due (s .pre .0 .few) (c .before .before .before .before .before .before .put-tab .ensures .end) (tab-most (s .args .t3 .dots)) (l .inv .0) (c .before .before .before .before .before .before .put-tab .kept .0) (s .pre .3),
+      word-room (l .inv .3) due (s .pre .0 .few) (c .before .before .before .before .before .before .put-tab .ensures (s .args .t3 .addresses) .end) (tab-most (wayOf (s .args .t3))) (l .inv .0) (c .before .before .before .before .before .before .put-tab .kept .0) (s .pre .3),
     )
 
 enum-known-answer : tie.Need-enum-known-answer Inv-loop μ-loop
@@ -149,7 +150,7 @@ loop-again-2 c =
       c .before .before .before .before .before .put-word .kept .0 ∙ c .before .before .before .before .before .before .before .before .before .before .before .before .put-tab .kept .0 ∙ l .inv .0,
       one-on (c .before .before .before .before .before .before .before .before .before .before .before .before .before .before .before .before .if1 .left),
       one-on (c .before .before .before .before .before .before .before .before .before .before .before .before .before .before .before .before .before .loop-test .taken),
-      word-on (l .k) (l .inv .3) (c .before .before .before .before .before .before .before .before .before .before .before .before .put-tab .ensures .end) (tab-most (s .args .t3 .dots)) (rw (c .before .answer .given .1) at (c .before .before .before .before .before .put-word .ensures .1)),
+      word-on (l .k) (l .inv .3) (c .before .before .before .before .before .before .before .before .before .before .before .before .put-tab .ensures (s .args .t3 .addresses) .end) (tab-most (wayOf (s .args .t3))) (rw (c .before .answer .given .1) at (c .before .before .before .before .before .put-word .ensures .1)),
       l .inv .4 ∙ turn-in (s .args .t3) (s .pre .0) (s .args .t4) (long s) (s .pre .1) (take (l .at) (l .line)) (l .k) (l .i) (c .before .before .before .before .before .before .before .before .before .before .before .before .before .before .before .before .before .loop-test .taken) (c .before .before .before .before .before .before .before .before .before .before .before .before .before .before .before .before .if1 .left) (c .before .before .before .before .before .before .before .if2 .left) _ (sym told ∙ judged (c .before .before .before .before .before)),
     )
 
