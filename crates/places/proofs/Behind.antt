@@ -12,11 +12,11 @@ use Rattle.rows.proofs.Every.{every-append}
 use Rattle.shorthand.specs.declared.Kind.{Kind}
 use Rattle.shorthand.specs.declared.Item.{Item}
 use Rattle.shorthand.specs.declared.Format.{Format}
-use Rattle.shorthand.specs.Layout.{Sign, itemsOf}
+use Rattle.shorthand.specs.Layout.{Way, by-letter, by-both, by-tab, Sign, itemsOf}
 use Rattle.words.specs.declared.Value.{Value}
 use Rattle.words.specs.declared.Word.{Word}
 use Rattle.reading.specs.declared.Block.{Block}
-use Rattle.reading.specs.Relation.{digits, Signed, never, plus, minus, plus-stands, minus-stands, plus-missing, Data, number, speed, dimension, Worded, tab, Words, done, out, here, End, skipRows, sequenceRows, Blocked, block, Blocks, Program, program}
+use Rattle.reading.specs.Relation.{digits, Signed, never, plus, minus, plus-stands, minus-stands, plus-missing, Data, number, speed, dimension, Worded, word, tab, Words, done, out, here, End, skipRows, sequenceRows, Blocked, block, Blocks, Program, program}
 use Rattle.reading.proofs.DigitRows.{digits-digit}
 use Rattle.reading.proofs.WordTakes.{reads, speed-small}
 use Rattle.places.specs.Begins.{Digit}
@@ -60,9 +60,10 @@ module _ (c : ℕ) where
 
       -- a program's rows, from those of its ends, words and sequence words
       module _ (other : (9 ≡ c → ⊥) × (37 ≡ c → ⊥) × (47 ≡ c → ⊥)) (of-end : (e : List ℕ) → End e → Behind c F e) where
-        tab-behind : (tabs : Bool) → Behind c F (tab tabs)
-        tab-behind true = behind-none (9 ∷ []) (other .0, tt)
-        tab-behind false = behind-none [] tt
+        tab-behind : (y : Way) → Behind c F (tab y)
+        tab-behind by-letter = behind-none [] tt
+        tab-behind by-both = behind-none (9 ∷ []) (other .0, tt)
+        tab-behind by-tab = behind-none (9 ∷ []) (other .0, tt)
 
         skip-behind : (skip : Bool) → Behind c F (skipRows skip)
         skip-behind true = behind-none (47 ∷ []) (other .2, tt)
@@ -70,13 +71,13 @@ module _ (c : ℕ) where
 
         -- of each item's words
         abbrev pub OfWords : Item → Type 0
-        OfWords i = (w : Word) (d : List ℕ) → Worded i w d → Behind c F d
+        OfWords i = (y : Way) (w : Word) (d : List ℕ) → Worded y i w d → Behind c F d
 
-        words-behind : {tabs : Bool} {its : List Item} {ws : List Word} {r : List ℕ} → Every OfWords its → Words tabs its ws r → Behind c F r
+        words-behind : {y : Way} {its : List Item} {ws : List Word} {r : List ℕ} → Every OfWords its → Words y its ws r → Behind c F r
         words-behind all done = behind-none [] tt
-        words-behind {tabs} all (out {r = r} h) = behind-both (tab tabs) r (tab-behind tabs) (words-behind (all .1) h)
-        words-behind {tabs} all (here {w = w} {d = d} {r = r} q h) =
-            behind-both (tab tabs) (d ++ r) (tab-behind tabs) (behind-both d r (all .0 w d q) (words-behind (all .1) h))
+        words-behind {y} all (out {r = r} h) = behind-both (tab y) r (tab-behind y) (words-behind (all .1) h)
+        words-behind {y} all (here {w = w} {d = d} {r = r} q h) =
+            behind-both (tab y) (d ++ r) (tab-behind y) (behind-both d r (all .0 y w d q) (words-behind (all .1) h))
 
         module _ (f : Format) (of-words : Every OfWords (itemsOf f)) (of-number : (alignment : Bool) (n : ℕ) → n < 10 ^ f .sequence → Behind c F (sequenceRows (f .sequence) alignment n)) where
           block-behind : {b : Block} {x : List ℕ} → Blocked f b x → Behind c F x
@@ -111,3 +112,8 @@ module _ {P : ℕ → Type 0} (digit : (c : ℕ) → Digit c → P c) (plus-sign
   every-data (number {ds = ds} p) = every-digit ds (reads p .digit)
   every-data (speed {k = j} {v = v} c e) = every-digit (digits j c) (digits-digit j c (speed-small j c v e))
   every-data (dimension {s = s} {ds = ds} g p) = every-append P s ds (every-sign g) (every-digit ds (reads p .digit))
+
+  pub every-word : (y : Way) (it : Item) → P (it .letter) → {w : Word} {d : List ℕ} → Worded y it w d → Every P d
+  every-word by-letter it l (word q) = (l, every-data q)
+  every-word by-both it l (word q) = (l, every-data q)
+  every-word by-tab it l (word q) = every-data q

@@ -1,9 +1,9 @@
--- Two ways to split the same rows, and what CR and spoilt words leave no room for.
+-- What CR and the digits of a speed leave no room for.
 use Prim.Native.Nat.{ℕ, _≤_, _<_}
 use mathlib.Core.Path.{_≡_, refl, sym, ap, _∙_, subst}
 use mathlib.Core.Logic.{_⊎_, inl, inr}
 use mathlib.Core.Bool.{true, false, cond, false≢true}
-use mathlib.Core.List.{List, [], _∷_, _++_, append-assoc, List·Memᴰ}
+use mathlib.Core.List.{List, [], _∷_, _++_, append-assoc, append-nil}
 use native.Mathlib.Nat.{zero-lt-suc}
 use native.Mathlib.Omega.{arith}
 use lib.ListN.{length, length-append}
@@ -13,80 +13,23 @@ use Rattle.rows.specs.Passes.{Every}
 use Rattle.shorthand.specs.declared.Kind.{Kind}
 use Rattle.shorthand.specs.declared.Item.{Item}
 use Rattle.shorthand.specs.declared.Format.{Format}
-use Rattle.shorthand.specs.Layout.{itemsOf, width, missingOf, fewest, barred, signOf}
-use Rattle.shorthand.specs.Edition.{letters}
+use Rattle.shorthand.specs.Layout.{Way, wayOf, width, missingOf, fewest, barred, signOf}
 use Rattle.shorthand.specs.Facts.{Facts}
 use Rattle.reading.specs.declared.Block.{Block}
-use Rattle.reading.specs.Relation.{Signed, End, lf, cr-lf, skipRows, Program, program, chars}
-use Rattle.reading.proofs.WordsTake.{fails}
+use Rattle.reading.specs.Relation.{Signed, address, End, lf, cr-lf, skipRows, Program, program, chars}
 use Rattle.reading.proofs.ReadData.{barred-none}
-use Rattle.places.specs.Begins.{Digit, Begins, Closes}
-use Rattle.places.specs.Faults.{Miscounted, too-few, too-many, SignFault, EndDue, of-head, of-block, Cut, in-head, in-block, SpeedDue}
+use Rattle.places.specs.Begins.{Digit, Begins, Closes, Due}
+use Rattle.places.specs.Faults.{Miscounted, too-few, too-many, SignFault, GoesOn, lastOf, EndDue, of-head, of-block, Cut, in-head, in-block, SpeedDue}
 use Rattle.places.proofs.Behind.{every-digit}
-use Rattle.places.proofs.Addressed.{item-letter, Same, same-letter, every-item}
-use Rattle.places.proofs.Stems.{isFigure, stem, Figure, digit-figure, stem-at, inHead, inNumber, inWord, head-word, number-word, stem-letter, stem-number, stem-start, figures-all}
+use Rattle.places.proofs.Splits.{Split, same, sooner, later, compare}
+use Rattle.places.proofs.Called.{stem-called, called-same}
+use Rattle.places.proofs.Stems.{stem, Figure, digit-figure, stem-at, inHead, inNumber, inWord, head-word, number-word, stem-number, stem-start, figures-all}
 use Rattle.places.proofs.Marks.{cr-follows}
-use Rattle.places.proofs.EndsAlone.{end-some, not-head, not-sign, not-many}
+use Rattle.places.proofs.EndsAlone.{end-some, not-head, right-behind, not-many}
 use Rattle.places.proofs.OneNumber.{Spot, percent, head-end, block-end, start, number, figures, sign}
-
--- ---- lists split in two ways
-
-module _ {A : Type 0} where
-  -- the same place, or one stands before the other
-  pub data Split (b c : List A) (r : A) (a : List A) (s : A) (d : List A) : Type 0 where
-    same : b ≡ c → r ≡ s → a ≡ d → Split b c r a s d
-    sooner : (u : List A) → c ≡ b ++ (r ∷ u) → a ≡ u ++ (s ∷ d) → Split b c r a s d
-    later : (u : List A) → b ≡ c ++ (s ∷ u) → d ≡ u ++ (r ∷ a) → Split b c r a s d
-
-  pub compare : (b c : List A) (r : A) (a : List A) (s : A) (d : List A) → b ++ (r ∷ a) ≡ c ++ (s ∷ d) → Split b c r a s d
-  compare [] [] r a s d e = same refl (cc) (cc)
-  compare [] (x ∷ c) r a s d e =
-      let h : x ≡ r = cc in
-      let t : a ≡ c ++ (s ∷ d) = cc in
-      sooner c (ap (λ y. y ∷ c) h) t
-  compare (x ∷ b) [] r a s d e =
-      let h : x ≡ s = cc in
-      let t : d ≡ b ++ (r ∷ a) = cc in
-      later b (ap (λ y. y ∷ b) h) t
-  compare (x ∷ b) (y ∷ c) r a s d e =
-      let h : x ≡ y = cc in
-      let t : b ++ (r ∷ a) ≡ c ++ (s ∷ d) = cc in
-      go h (compare b c r a s d t)
-    where
-      go : x ≡ y → Split b c r a s d → Split (x ∷ b) (y ∷ c) r a s d
-      go h (same p q o) = same (ap (λ l. x ∷ l) p ∙ ap (λ z. z ∷ c) h) q o
-      go h (sooner u p q) = sooner u (ap (λ z. z ∷ c) (sym h) ∙ ap (λ l. x ∷ l) p) q
-      go h (later u p q) = later u (ap (λ z. z ∷ b) h ∙ ap (λ l. y ∷ l) p) q
-
-  -- of two beginnings, one begins the other
-  pub nested : (ds u : List A) (rest : List A) (r : A) (a : List A) → ds ++ rest ≡ u ++ (r ∷ a) → ((w : List A) × (u ≡ ds ++ w)) ⊎ ((v : List A) × (ds ≡ u ++ (r ∷ v)))
-  nested [] u rest r a e = inl (u, refl)
-  nested (d ∷ ds) [] rest r a e = let h : d ≡ r = cc in inr (ds, ap (λ z. z ∷ ds) h)
-  nested (d ∷ ds) (x ∷ u) rest r a e =
-      let h : d ≡ x = cc in
-      let t : ds ++ rest ≡ u ++ (r ∷ a) = cc in
-      go h (nested ds u rest r a t)
-    where
-      go : d ≡ x → ((w : List A) × (u ≡ ds ++ w)) ⊎ ((v : List A) × (ds ≡ u ++ (r ∷ v))) → ((w : List A) × (x ∷ u ≡ d ∷ (ds ++ w))) ⊎ ((v : List A) × (d ∷ ds ≡ x ∷ (u ++ (r ∷ v))))
-      go h (inl p) = inl (p .0, ap (λ z. z ∷ u) (sym h) ∙ ap (λ l. d ∷ l) (p .1))
-      go h (inr p) = inr (p .0, ap (λ z. z ∷ ds) h ∙ ap (λ l. x ∷ l) (p .1))
 
 pub begins-front : {f : Format} (a b : List ℕ) → Begins f (a ++ b) → Begins f a
 begins-front {f} a b (bs, o, p) = (bs, b ++ o, subst (λ x. Program f bs x) (append-assoc a b o) p)
-
--- ---- what stands behind the last letter
-
-pub every-at : (y : List ℕ) (l : ℕ) (z : List ℕ) → Every Figure (y ++ (l ∷ z)) → Figure l
-every-at [] l z all = all .0
-every-at (c ∷ y) l z all = every-at y l z (all .1)
-
-pub tail-same : (y w : List ℕ) (k l : ℕ) (z v : List ℕ) → isFigure k ≡ false → isFigure l ≡ false → Every Figure z → Every Figure v → y ++ (k ∷ z) ≡ w ++ (l ∷ v) → z ≡ v
-tail-same y w k l z v n o p q e = go (compare y w k z l v e)
-  where
-    go : Split y w k z l v → z ≡ v
-    go (same a b c) = c
-    go (sooner u a b) = absurd (false≢true (sym o ∙ every-at u l v (subst (Every Figure) b p)))
-    go (later u a b) = absurd (false≢true (sym n ∙ every-at u k z (subst (Every Figure) b q)))
 
 -- ---- behind a CR nothing is out of place
 
@@ -100,9 +43,8 @@ module _ {f : Format} (facts : Facts f) where
   stem-spot (start h skip p e) = inr (inr (inl (rw e (stem-start facts h skip p))))
   stem-spot (number h skip alignment ds e all m) =
       inr (inr (inl (rw (e ∙ sym (append-assoc h (skipRows skip) (cond alignment 58 78 ∷ ds))) (stem-number facts (h ++ skipRows skip) alignment ds all))))
-  stem-spot (figures it y s ds i e g all m bare) =
-      inr (inr (inr (subst inWord (sym (ap stem e ∙ stem-letter facts it y (s ++ ds) i (figures-all facts s ds g all))) (item-letter (facts .fair) i))))
-  stem-spot (sign it y i e h) = inr (inr (inr (subst inWord (sym (ap stem e ∙ stem-letter facts it y [] i tt)) (item-letter (facts .fair) i))))
+  stem-spot {x} (figures it y s ds due e g all m none) = inr (inr (inr (stem-called facts due (s ++ ds) (figures-all facts s ds g all) x e)))
+  stem-spot {x} (sign it y due e h) = inr (inr (inr (stem-called facts due [] tt x (e ∙ sym (append-nil (y ++ address (wayOf f) it))))))
 
   pub behind-cr : (y : List ℕ) {c n : ℕ} → Spot f (y ++ (13 ∷ [])) c n → ⊥
   behind-cr y h = go (stem-spot h)
@@ -123,68 +65,68 @@ module _ {f : Format} (facts : Facts f) where
 -- ---- in a speed's word
 
 module _ {f : Format} (facts : Facts f) {k : ℕ} {it : Item} {y : List ℕ} (due : SpeedDue f it k y) (u : List ℕ) (all : Every Digit u) where
-  known : inWord (it .letter)
-  known = item-letter (facts .fair) (due .item)
-
-  far : (jt : Item) → List·Memᴰ jt (itemsOf f) → isFigure (jt .letter) ≡ false
-  far jt j = fails isFigure letters (jt .letter) (item-letter (facts .fair) j) refl
+  -- the rows up to its data
+  abbrev X : List ℕ
+  X = y ++ address (wayOf f) it
 
   figured : Every Figure u
   figured = every-digit digit-figure refl refl u all
 
-  at-letter : stem (y ++ (it .letter ∷ u)) ≡ it .letter
-  at-letter = stem-letter facts it y u (due .item) figured
+  in-word : inWord (stem (X ++ u))
+  in-word = stem-called facts (due .due) u figured (X ++ u) refl
 
-  -- the item whose letter stands there
-  kind-is : (jt : Item) (w z : List ℕ) → List·Memᴰ jt (itemsOf f) → Every Figure z → y ++ (it .letter ∷ u) ≡ w ++ (jt .letter ∷ z) → jt .kind ≡ Kind.Speed k
-  kind-is jt w z j p e =
-      every-item (Same it) j (same-letter (facts .fair) (due .item)) (sym (stem-letter facts jt w z j p) ∙ ap stem (sym e) ∙ at-letter) ∙ due .speed
+  -- the item whose data stand there
+  same-word : (jt : Item) (w z : List ℕ) → Due f jt w → Every Figure z → X ++ u ≡ w ++ address (wayOf f) jt ++ z → (jt .kind ≡ Kind.Speed k) × (u ≡ z)
+  same-word jt w z h p e = let q = called-same facts (due .due) h u z figured p e in (q .1 ∙ due .speed, q .2)
 
   -- right behind fewer digits than it has, a digit is never out of place
-  pub inside-word : {c n : ℕ} → length u < k → Digit c → Spot f (y ++ (it .letter ∷ u)) c n → ⊥
+  pub inside-word : {c n : ℕ} → length u < k → Digit c → Spot f (X ++ u) c n → ⊥
   unfolding stem
-  inside-word {c} few d (percent e) = let z = ap length e in omega (arith, length-append y (it .letter ∷ u))
-  inside-word {c} few d (head-end e) = head-word (it .letter) (ap inHead (sym at-letter ∙ ap stem e)) known
+  inside-word {c} few d (percent e) = head-word (stem (X ++ u)) (rw e) in-word
+  inside-word {c} few d (head-end e) = head-word (stem (X ++ u)) (rw e) in-word
   inside-word {c} few d (block-end q h) = go u refl
     where
       go : (v : List ℕ) → u ≡ v → ⊥
-      go [] n = not-sign facts (y ++ (it .letter ∷ u)) c it y (due .item) (ap (λ z. y ++ (it .letter ∷ z)) n) (q, h)
-      go (x ∷ v) n =
-          not-many facts (y ++ (it .letter ∷ u)) c (y ++ (it .letter ∷ [])) u (sym (append-assoc y (it .letter ∷ []) u)) all (subst (λ z. 0 < length z) (sym n) (zero-lt-suc _)) d (q, h)
-  inside-word {c} few d (start h skip p e) = number-word (it .letter) (ap inNumber (sym at-letter ∙ ap stem e) ∙ stem-start facts h skip p) known
+      go [] n =
+          let e : X ++ u ≡ X = ap (λ z. X ++ z) n ∙ append-nil X in
+          right-behind facts (due .due) c d (subst (Closes f) e q) (λ o. h (subst (λ z. GoesOn (wayOf f) (lastOf z) c) (sym e) o))
+      go (x ∷ v) n = not-many facts (X ++ u) c X u refl all (subst (λ z. 0 < length z) (sym n) (zero-lt-suc _)) d (q, h)
+  inside-word {c} few d (start h skip p e) = number-word (stem (X ++ u)) (rw e (stem-start facts h skip p)) in-word
   inside-word {c} few d (number h skip alignment ds e each m) =
-      number-word (it .letter)
-      (ap inNumber (sym at-letter ∙ ap stem (e ∙ sym (append-assoc h (skipRows skip) (cond alignment 58 78 ∷ ds)))) ∙ stem-number facts (h ++ skipRows skip) alignment ds each) known
-  inside-word {c} few d (figures jt w s ds j e g each (too-few l n) bare) = n d
-  inside-word {c} few d (figures jt w s ds j e g each (too-many l n) bare) =
-      let p = figures-all facts s ds g each in
-      let t : u ≡ s ++ ds = tail-same y w (it .letter) (jt .letter) u (s ++ ds) (far it (due .item)) (far jt j) figured p e in
-      let m : width (jt .kind) ≡ k = ap width (kind-is jt w (s ++ ds) j p e) in
-      omega (arith, length-append s ds, ap length t)
-  inside-word {c} few d (sign jt w j e fault) = barred-digit (subst (λ i. SignFault (signOf i) c) (kind-is jt w [] j tt e) fault)
+      number-word (stem (X ++ u)) (rw (e ∙ sym (append-assoc h (skipRows skip) (cond alignment 58 78 ∷ ds))) (stem-number facts (h ++ skipRows skip) alignment ds each)) in-word
+  inside-word {c} few d (figures jt w s ds h e g each (too-few l n) none) = n d
+  inside-word {c} few d (figures jt w s ds h e g each (too-many l n) none) =
+      let q = same-word jt w (s ++ ds) h (figures-all facts s ds g each) e in
+      let m : width (jt .kind) ≡ k = ap width (q .0) in
+      omega (arith, length-append s ds, ap length (q .1))
+  inside-word {c} few d (sign jt w h e fault) =
+      barred-digit (subst (λ i. SignFault (wayOf f) (signOf i) c) (same-word jt w [] h tt (e ∙ sym (append-nil (w ++ address (wayOf f) jt))) .0) fault)
     where
-      barred-digit : SignFault barred c → ⊥
+      barred-digit : SignFault (wayOf f) barred c → ⊥
       barred-digit (SignFault.barred-sign (inl h)) = omega arith
       barred-digit (SignFault.barred-sign (inr h)) = omega arith
 
   -- the count of its digits, where they are out of place
-  pub speed-miscount : {c : ℕ} → Spot f (y ++ (it .letter ∷ u)) c 11 → Miscounted k k u c
-  speed-miscount {c} (figures jt w s ds j e g each m bare) =
-      let p = figures-all facts s ds g each in
-      let i = kind-is jt w (s ++ ds) j p e in
-      let none : s ≡ [] = go (jt .kind) i g in
-      let t : u ≡ ds = tail-same y w (it .letter) (jt .letter) u (s ++ ds) (far it (due .item)) (far jt j) figured p e ∙ ap (λ z. z ++ ds) none in
-      subst (λ v. Miscounted k k v c) (sym t) (subst (λ i. Miscounted (fewest (missingOf i) (width i)) (width i) ds c) i m)
+  pub speed-miscount : {c : ℕ} → Spot f (X ++ u) c 11 → Miscounted k k u c
+  speed-miscount {c} (figures jt w s ds h e g each m none) =
+      let q = same-word jt w (s ++ ds) h (figures-all facts s ds g each) e in
+      let t : u ≡ ds = q .1 ∙ ap (λ z. z ++ ds) (go (jt .kind) (q .0) g) in
+      subst (λ v. Miscounted k k v c) (sym t) (subst (λ i. Miscounted (fewest (missingOf i) (width i)) (width i) ds c) (q .0) m)
     where
       go : {m : ℕ} {z : ℤ} {s : List ℕ} (i : Kind) → i ≡ Kind.Speed k → Signed m (signOf i) z s → s ≡ []
       go {m} {z} {s} i e g = barred-none (subst (λ j. Signed m (signOf j) z s) e g)
 
 -- ---- two ends, and two tapes that end too soon
 
+-- no character 0 goes on with "%"
+no-figure : {y : Way} → GoesOn y 37 0 → ⊥
+no-figure (GoesOn.digit-behind d e) = omega arith
+no-figure (GoesOn.data-behind t e h) = omega arith
+
 ends-one : {f : Format} → Facts f → {n m : ℕ} {x : List ℕ} → EndDue f n x → EndDue f m x → n ≡ m
 ends-one facts of-head of-head = refl
-ends-one facts of-head (of-block k) = absurd (not-head facts (37 ∷ []) 0 refl (k, λ d e. omega arith))
-ends-one facts (of-block k) of-head = absurd (not-head facts (37 ∷ []) 0 refl (k, λ d e. omega arith))
+ends-one facts of-head (of-block k) = absurd (not-head facts (37 ∷ []) 0 refl (k, λ o. no-figure o))
+ends-one facts (of-block k) of-head = absurd (not-head facts (37 ∷ []) 0 refl (k, λ o. no-figure o))
 ends-one facts (of-block k) (of-block h) = refl
 
 pub cr-cr : {f : Format} → Facts f → {n m : ℕ} (b h : List KeptRow) (c e : KeptRow) → b ++ (c ∷ []) ≡ h ++ (e ∷ []) → EndDue f n (chars b) → EndDue f m (chars h) → (n ≡ m) × (c .place ≡ e .place)

@@ -10,7 +10,7 @@ use Rattle.reading.specs.Relation.{End, lf, cr-lf, Program}
 use Rattle.places.specs.Faults.{Cut, in-head, in-block}
 use Rattle.places.proofs.Behind.{behind-none}
 use Rattle.places.proofs.Stems.{program-lf}
-use Rattle.places.proofs.Compared.{Split, same, sooner, later, compare}
+use Rattle.places.proofs.Splits.{Split, same, sooner, later, compare}
 
 -- the LF that ends a program's rows is not in the rest of a head
 short-head : (y o w : List ℕ) → 0 < length o → ((u : List ℕ) → w ≡ y ++ (10 ∷ u) → ⊥) → y ++ (10 ∷ o) ≡ w ++ (10 ∷ []) → ⊥

@@ -3,7 +3,7 @@ use Prim.Native.Nat.{ℕ, zero, suc, _+_, _-_, _*_, _^_, _≤_, _<_}
 use mathlib.Core.Path.{_≡_, refl, sym, ap, _∙_, subst}
 use mathlib.Core.Bool.{true, false, and-eq-true-iff, false≢true}
 use mathlib.Core.List.{List, [], _∷_, _++_}
-use native.Mathlib.Nat.{pow-succ'}
+use native.Mathlib.Nat.{pow-succ', zero-lt-suc}
 use native.Mathlib.Omega.{arith}
 use lib.Arith.{digits-lt}
 use lib.ListN.{length, length-append, length-replicate}
@@ -13,12 +13,15 @@ use Rattle.rows.specs.Passes.{Every}
 use Rattle.rows.proofs.Every.{every-append}
 use Rattle.shorthand.specs.declared.Missing.{Missing}
 use Rattle.shorthand.specs.declared.Missing.the-variants.{Nothing, Leading, Trailing}
-use Rattle.shorthand.specs.Layout.{fewest}
+use Rattle.shorthand.specs.declared.Kind.{Kind}
+use Rattle.shorthand.specs.Layout.{width, fewest}
+use Rattle.shorthand.specs.Facts.{Widths}
 use Rattle.reading.specs.Relation.{digits, zeros, Punched, in-full, front, back}
 use Rattle.words.specs.Figures.{isDigit}
 use Rattle.reading.proofs.Runs.{digits-front}
 use Rattle.reading.proofs.RowsAhead.{is-digit}
 use Rattle.places.specs.Begins.{Digit}
+use Rattle.places.specs.Faults.{lastOf}
 
 -- ---- digits
 
@@ -31,6 +34,22 @@ no-digit c e h = false≢true (sym e ∙ is-digit c h)
 pub zeros-digit : (j : ℕ) → Every Digit (zeros j)
 zeros-digit zero = tt
 zeros-digit (suc j) = ((lit≤ tt, lit≤ tt), zeros-digit j)
+
+-- ---- the last of some rows
+
+last-append : (x : List ℕ) (c : ℕ) (y : List ℕ) → lastOf (x ++ (c ∷ y)) ≡ lastOf (c ∷ y)
+last-append [] c y = refl
+last-append (d ∷ []) c y = refl
+last-append (d ∷ (e ∷ x)) c y = last-append (e ∷ x) c y
+
+pub last-behind : (x y : List ℕ) → 0 < length y → lastOf (x ++ y) ≡ lastOf y
+last-behind x [] some = absurd (omega arith)
+last-behind x (c ∷ y) some = last-append x c y
+
+pub last-digit : (ds : List ℕ) → Every Digit ds → 0 < length ds → Digit (lastOf ds)
+last-digit [] all l = absurd (omega arith)
+last-digit (c ∷ []) all l = all .0
+last-digit (c ∷ (d ∷ ds)) all l = last-digit (d ∷ ds) (all .1) (zero-lt-suc _)
 
 -- ---- the number that they are
 
@@ -64,6 +83,11 @@ some-punched Trailing n ds all least most =
     let j = n - length ds in
     let c = coded n (ds ++ zeros j) (every-append Digit ds (zeros j) all (zeros-digit j)) (simp (length-append, length-replicate) (omega arith)) in
     (c .0, back j (c .1) (sym (c .2)) least)
+
+pub some-width : (k : Kind) → Widths k → 1 ≤ width k
+some-width (Kind.Plain n) w = w .0
+some-width (Kind.Speed n) w = omega arith
+some-width (Kind.Dimension d) w = w .2
 
 pub fewest-most : (z : Missing) (n : ℕ) → 1 ≤ n → fewest z n ≤ n
 fewest-most Nothing n h = omega arith

@@ -1,17 +1,15 @@
 -- Exactly: a tape is refused by 8 to 14 at a place where, and only where, what the refusal says holds of it.
 use Prim.Native.Nat.{ℕ, _≤_}
-use mathlib.Core.Path.{_≡_, refl, sym, ap, _∙_, subst}
+use mathlib.Core.Path.{_≡_, refl, sym, subst}
 use mathlib.Core.Logic.{_↔_, _⊎_, inl, inr}
-use mathlib.Core.List.{List, [], _∷_, append-nil}
+use mathlib.Core.List.{List, [], append-nil}
 use lib.ListN.{length}
 use Rattle.rows.specs.Answer.{Answer, taken, refused}
 use Rattle.rows.specs.Kept.{KeptRow, kept}
 use Rattle.rows.proofs.Judged.{passes-clean}
 use Rattle.shorthand.specs.declared.Format.{Format}
 use Rattle.shorthand.specs.Facts.{Facts}
-use Rattle.shorthand.specs.Parse.{parsed}
-use Rattle.shorthand.proofs.Accepted as shorthand
-use Rattle.shorthand.proofs.Fairness.{lawful-facts}
+use Rattle.profile.proofs.Settling.{settled-exactly, settled-facts}
 use Rattle.reading.specs.declared.Block.{Block}
 use Rattle.reading.specs.Relation.{Program, chars}
 use Rattle.reading.specs.Parse.{Entry}
@@ -47,13 +45,12 @@ module _ {f : Format} (facts : Facts f) (len : ℕ) (rs : List KeptRow) (n p : �
   pub rows-exactly : (programAt len f rs ≡ refused n p) ↔ Refusal f len rs n p
   rows-exactly = (refused-rows f facts len rs n p, rows-refused)
 
--- of a tape under an edition and a shorthand
-module _ (e : ℕ) (s t : List ℕ) (n p : ℕ) where
-  pub refusal-read : RefusalOf e s t n p → readUnder e s t ≡ refused n p
+-- of a tape under an edition, a shorthand and a profile
+module _ (e : ℕ) (s p t : List ℕ) (n k : ℕ) where
+  pub refusal-read : RefusalOf e s p t n k → readUnder e s p t ≡ refused n k
   unfolding readUnder read
   refusal-read h =
-      let q : parsed e s ≡ taken (h .format) = ap (parsed e) (h .spelt) ∙ shorthand.complete (h .lawful) in
-      rw (q, passes-clean t (h .passes)) (rows-refused (lawful-facts (h .lawful)) (length t) (kept t) n p (h .says))
+      rw (settled-exactly e s p (h .format) .1 (h .settled), passes-clean t (h .passes)) (rows-refused (settled-facts (h .settled)) (length t) (kept t) n k (h .says))
 
-  pub tape-exactly : 8 ≤ n → (readUnder e s t ≡ refused n p) ↔ RefusalOf e s t n p
-  tape-exactly late = (tape-refused e s t n p late, refusal-read)
+  pub tape-exactly : 8 ≤ n → n ≤ 14 → (readUnder e s p t ≡ refused n k) ↔ RefusalOf e s p t n k
+  tape-exactly late early = (tape-refused e s p t n k late early, refusal-read)

@@ -14,16 +14,16 @@ use Rattle.rows.specs.Kept.{KeptRow}
 use Rattle.rows.specs.Passes.{Every}
 use Rattle.shorthand.specs.declared.Missing.{Missing}
 use Rattle.shorthand.specs.declared.Missing.the-variants.{Nothing, Leading, Trailing}
-use Rattle.shorthand.specs.Layout.{fewest}
+use Rattle.shorthand.specs.Layout.{Way, fewest}
 use Rattle.reading.specs.Relation.{chars}
 use Rattle.words.specs.declared.Wanted.{Wanted}
-use Rattle.words.specs.Figures.{taking, wrongBy, cutBy, wrong, fronts, isDigit, digitNext, isSign, Run, run, restored, figures}
+use Rattle.words.specs.Figures.{taking, wrongBy, cutBy, wrong, fronts, isDigit, digitNext, isFigure, figureNext, Run, run, restored, figures}
 use Rattle.reading.proofs.DigitRows.{worth}
 use Rattle.reading.proofs.RowsAhead.{is-digit}
 use Rattle.places.specs.Begins.{Digit}
-use Rattle.places.specs.Faults.{Miscounted, too-few, too-many}
-use Rattle.places.proofs.Steady.{Like, no-row, first-row, at-row, at-end, Goes, took, held}
-use Rattle.places.proofs.DigitLists.{digit-is, no-digit}
+use Rattle.places.specs.Faults.{GoesOn, digit-behind, data-behind, lastOf, Miscounted, too-few, too-many}
+use Rattle.places.proofs.Steady.{Like, no-row, first-row, Next, at-row, at-end, Goes, took, held}
+use Rattle.places.proofs.DigitLists.{digit-is, no-digit, last-behind, last-digit}
 
 -- ---- tests of the first row
 
@@ -38,6 +38,11 @@ fronts-like c n x y (first-row (inl e)) = ap (λ d. eqb d c) e
 fronts-like c n x y (first-row {r} {s} (inr h)) =
     let other : (d : ℕ) → Digit d → eqb d c ≡ false = λ d k. ne-eqb d c (λ e. no-digit c n (subst Digit e k)) in
     other (r .char) (h .0) ∙ sym (other (s .char) (h .1))
+
+pub figure-like : (x y : List KeptRow) → Like x y → figureNext x ≡ figureNext y
+figure-like x y no-row = refl
+figure-like x y (first-row (inl e)) = ap isFigure e
+figure-like x y (first-row {r} {s} (inr h)) = rw (is-digit (r .char) (h .0), is-digit (s .char) (h .1))
 
 -- ---- a run of digits
 
@@ -104,19 +109,30 @@ pub record Figured (z : Missing) (n a : ℕ) (u : List ℕ) (rest : List KeptRow
 restored-full : (z : Missing) (n : ℕ) (ds rest : List KeptRow) → z ≡ Nothing → restored z n (ranOf ds rest) ≡ worth 0 (chars ds)
 restored-full z n ds rest e = rw e
 
--- a sign stands at the front
-abbrev pub signNext : List KeptRow → Bool
-signNext [] = false
-signNext (r ∷ rs) = isSign (r .char)
+-- nothing at the front goes on with the last of the rows u
+abbrev pub Firm : Way → List ℕ → List KeptRow → Type 0
+Firm y u rest = Next (λ c. GoesOn y (lastOf u) c → ⊥) rest
 
--- refused as digits of what is wanted, at a row or at the end; the first row is a sign or not
-pub data FigureStop (sg : Bool) (x : Wanted) (z : Missing) (n : ℕ) : ℕ → List ℕ → List ℕ → List ℕ → Type 0 where
-  miscounted : {ds : List ℕ} {c : ℕ} → Every Digit ds → Miscounted (fewest z n) n ds c → (ds ≡ [] → isSign c ≡ sg) → FigureStop sg x z n (wrongBy x) [] ds (c ∷ [])
-  cut : {ds : List ℕ} → Every Digit ds → length ds < fewest z n → FigureStop sg x z n (cutBy x) [] ds []
+-- behind digits that are enough nothing does
+pub figured-firm : (y : Way) (x : List ℕ) {z : Missing} {n a : ℕ} {u : List ℕ} {rest : List KeptRow} → Figured z n a u rest → 1 ≤ fewest z n → Firm y (x ++ u) rest
+figured-firm y x {rest = []} h some = tt
+figured-firm y x {u = u} {rest = r ∷ rest} h some = go
+  where
+    last : Digit (lastOf (x ++ u))
+    last = let l : 0 < length u = omega (arith, h .least) in subst Digit (sym (last-behind x u l)) (last-digit u (h .all) l)
 
-first-sign : (rs ds a : List KeptRow) (r : KeptRow) → rs ≡ ds ++ (r ∷ a) → chars ds ≡ [] → isSign (r .char) ≡ signNext rs
-first-sign rs [] a r e n = ap signNext (sym e)
-first-sign rs (d ∷ ds) a r e n = let z = ap length n in absurd (omega arith)
+    go : GoesOn y (lastOf (x ++ u)) (r .char) → ⊥
+    go (digit-behind d c) = no-digit (r .char) (h .apart) c
+    go (data-behind t e f) = omega (arith, last)
+
+-- refused as digits of what is wanted, at a row or at the end; where no digit stands, P is of the first row
+pub data FigureStop (P : ℕ → Type 0) (x : Wanted) (z : Missing) (n : ℕ) : ℕ → List ℕ → List ℕ → List ℕ → Type 0 where
+  miscounted : {ds : List ℕ} {c : ℕ} → Every Digit ds → Miscounted (fewest z n) n ds c → (ds ≡ [] → P c) → FigureStop P x z n (wrongBy x) [] ds (c ∷ [])
+  cut : {ds : List ℕ} → Every Digit ds → length ds < fewest z n → FigureStop P x z n (cutBy x) [] ds []
+
+first-is : (P : ℕ → Type 0) (rs ds a : List KeptRow) (r : KeptRow) → rs ≡ ds ++ (r ∷ a) → Next P rs → chars ds ≡ [] → P (r .char)
+first-is P rs [] a r e h n = subst (Next P) e h
+first-is P rs (d ∷ ds) a r e h n = let z = ap length n in absurd (omega arith)
 
 -- 13 is of no thing that is wanted
 pub not-thirteen : (x : Wanted) → wrongBy x ≡ 13 → ⊥
@@ -142,9 +158,9 @@ module _ (len : ℕ) (x : Wanted) (z : Missing) (n : ℕ) where
       go false d true e k h = absurd (false≢true (sym h))
       go false d false e k h = too-few (omega (arith, length-map ds (λ s. s .char), leb-false (fewest z n) (length ds) e)) (no-digit (r .char) d)
 
-  goes-on : (rs ds rest : List KeptRow) → rs ≡ ds ++ rest → Every Digit (chars ds) → length ds ≤ n → (length ds ≡ n) ⊎ (digitNext rest ≡ false)
-      → (b : Bool) → suits z n ds rest ≡ b → Goes (figures len x z n) len (Figured z n) (FigureStop (signNext rs) x z n) rs (cond b (taking (restored z n (ranOf ds rest)) rest) (wrong len x rest))
-  goes-on rs ds rest split all few why true e =
+  goes-on : (P : ℕ → Type 0) (rs ds rest : List KeptRow) → Next P rs → rs ≡ ds ++ rest → Every Digit (chars ds) → length ds ≤ n → (length ds ≡ n) ⊎ (digitNext rest ≡ false)
+      → (b : Bool) → suits z n ds rest ≡ b → Goes (figures len x z n) len (Figured z n) (FigureStop P x z n) rs (cond b (taking (restored z n (ranOf ds rest)) rest) (wrong len x rest))
+  goes-on P rs ds rest next split all few why true e =
       let p = and-eq-true-iff (leb (fewest z n) (length ds)) (not (digitNext rest)) .0 e in
       let c = length-map ds (λ s. s .char) in
       took ds split
@@ -157,15 +173,15 @@ module _ (len : ℕ) (x : Wanted) (z : Missing) (n : ℕ) where
       })
       (λ l h. let d : digitNext l ≡ false = sym (digit-like rest l h) ∙ not-true (digitNext rest) (p .1) in
       figures-are ds l all few (inr d) ∙ rw (p .0, d, restored-any z n ds l rest))
-  goes-on rs ds [] split all few why false e =
+  goes-on P rs ds [] next split all few why false e =
       let c = length-map ds (λ s. s .char) in
       held (at-end [] ds (split ∙ append-nil ds) all (cut {ds = chars ds} all (omega (arith, leb-false (fewest z n) (length ds) (and-true (leb (fewest z n) (length ds)) e)))))
     where
       and-true : (b : Bool) → (b && true) ≡ false → b ≡ false
       and-true true h = h
       and-true false h = refl
-  goes-on rs ds (r ∷ a) split all few why false e =
-      held (at-row [] ds [] a r split all (miscounted all (why-wrong ds r why e) (first-sign rs ds a r split)) (λ e. absurd (not-thirteen x e))
+  goes-on P rs ds (r ∷ a) next split all few why false e =
+      held (at-row [] ds [] a r split all (miscounted all (why-wrong ds r why e) (first-is P rs ds a r split next)) (λ e. absurd (not-thirteen x e))
       (λ es l h k. let q : figures len x z n (es ++ (r ∷ l)) ≡ refused (wrongBy x) (r .place) = figures-are es (r ∷ l) h (omega arith) (same es k why) ∙ rw (k, e) in
       rw q tt))
     where
@@ -173,8 +189,8 @@ module _ (len : ℕ) (x : Wanted) (z : Missing) (n : ℕ) where
       same es k (inl h) = inl (k ∙ h)
       same es k (inr h) = inr h
 
-  pub figures-go : (rs : List KeptRow) → Goes (figures len x z n) len (Figured z n) (FigureStop (signNext rs) x z n) rs (figures len x z n rs)
-  figures-go rs =
+  pub figures-go : (P : ℕ → Type 0) (rs : List KeptRow) → Next P rs → Goes (figures len x z n) len (Figured z n) (FigureStop P x z n) rs (figures len x z n rs)
+  figures-go P rs next =
       let s = spread n rs in
-      subst (λ y. Goes (figures len x z n) len (Figured z n) (FigureStop (signNext rs) x z n) rs y) (sym (ap (figures len x z n) (s .split) ∙ figures-are (s .ds) (s .rest) (s .all) (s .few) (s .why)))
-      (goes-on rs (s .ds) (s .rest) (s .split) (s .all) (s .few) (s .why) (suits z n (s .ds) (s .rest)) refl)
+      subst (λ y. Goes (figures len x z n) len (Figured z n) (FigureStop P x z n) rs y) (sym (ap (figures len x z n) (s .split) ∙ figures-are (s .ds) (s .rest) (s .all) (s .few) (s .why)))
+      (goes-on P rs (s .ds) (s .rest) next (s .split) (s .all) (s .few) (s .why) (suits z n (s .ds) (s .rest)) refl)

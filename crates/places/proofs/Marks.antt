@@ -11,17 +11,18 @@ use borrow.Author.Tests.{eqb-false, ne-eqb}
 use Rattle.rows.specs.Passes.{Every}
 use Rattle.shorthand.specs.declared.Item.{Item}
 use Rattle.shorthand.specs.declared.Format.{Format}
+use Rattle.shorthand.specs.Layout.{Way, by-letter, by-both, by-tab}
 use Rattle.shorthand.specs.Edition.{letters, anyOf}
 use Rattle.shorthand.specs.Facts.{Fair, none, more, Facts}
 use Rattle.words.specs.declared.Word.{Word}
 use Rattle.reading.specs.declared.Block.{Block}
-use Rattle.reading.specs.Relation.{digits, Worded, word, tab, Words, done, out, here, End, lf, cr-lf, skipRows, sequenceRows, Blocked, block, Blocks, Program, program}
+use Rattle.reading.specs.Relation.{digits, Worded, tab, Words, done, out, here, End, lf, cr-lf, skipRows, sequenceRows, Blocked, block, Blocks, Program, program}
 use Rattle.words.specs.Figures.{isDigit}
 use Rattle.reading.proofs.DigitRows.{digits-length, digits-digit}
 use Rattle.reading.proofs.WordsTake.{fails}
 use Rattle.places.specs.Begins.{Digit}
 use Rattle.places.proofs.DigitLists.{no-digit}
-use Rattle.places.proofs.Behind.{Behind, behind-none, program-behind, every-digit, every-data}
+use Rattle.places.proofs.Behind.{Behind, behind-none, program-behind, every-digit, every-word}
 
 -- ---- digits behind a mark
 
@@ -37,11 +38,11 @@ module _ (t : ℕ) (no : isDigit t ≡ false) (signs : (43 ≡ t → ⊥) × (45
   other-digit : (c : ℕ) → Digit c → c ≡ t → ⊥
   other-digit c h e = no-digit t no (subst Digit e h)
 
-  word-other : (F : List ℕ → Type 0) (i : Item) → T (anyOf (λ c. eqb c (i .letter)) letters) → (w : Word) (d : List ℕ) → Worded i w d → Behind t F d
-  word-other F i known w d (word {ds = ds} q) =
-      behind-none t F (i .letter ∷ ds) (eqb-false (i .letter) t (fails (λ d. eqb d t) letters (i .letter) known unlisted), every-data other-digit (signs .0) (signs .1) q)
+  word-other : (F : List ℕ → Type 0) (i : Item) → T (anyOf (λ c. eqb c (i .letter)) letters) → (y : Way) (w : Word) (d : List ℕ) → Worded y i w d → Behind t F d
+  word-other F i known y w d q =
+      behind-none t F d (every-word other-digit (signs .0) (signs .1) y i (eqb-false (i .letter) t (fails (λ d. eqb d t) letters (i .letter) known unlisted)) q)
 
-  words-other : (F : List ℕ → Type 0) {its : List Item} → Fair its → Every (λ i. (w : Word) (d : List ℕ) → Worded i w d → Behind t F d) its
+  words-other : (F : List ℕ → Type 0) {its : List Item} → Fair its → Every (λ i. (y : Way) (w : Word) (d : List ℕ) → Worded y i w d → Behind t F d) its
   words-other F none = tt
   words-other F (more {it = i} known w d h) = (word-other F i known, words-other F h)
 
@@ -144,18 +145,19 @@ letter-neither : (l : ℕ) → T (anyOf (λ c. eqb c l) letters) → Neither l
 unfolding isMark
 letter-neither l known = (fails (λ d. eqb d 10) letters l known refl, fails isMark letters l known refl)
 
-tab-counts : (tabs : Bool) → Counts (tab tabs) 0 0
+tab-counts : (y : Way) → Counts (tab y) 0 0
 unfolding isMark
-tab-counts true = counts-none (9 ∷ []) ((refl, refl), tt)
-tab-counts false = counts-none [] tt
+tab-counts by-letter = counts-none [] tt
+tab-counts by-both = counts-none (9 ∷ []) ((refl, refl), tt)
+tab-counts by-tab = counts-none (9 ∷ []) ((refl, refl), tt)
 
-word-counts : (i : Item) → T (anyOf (λ c. eqb c (i .letter)) letters) → {w : Word} {d : List ℕ} → Worded i w d → Counts d 0 0
-word-counts i known (word {ds = ds} q) = counts-none (i .letter ∷ ds) (letter-neither (i .letter) known, every-data digit-neither (sign-neither .0) (sign-neither .1) q)
+word-counts : (y : Way) (i : Item) → T (anyOf (λ c. eqb c (i .letter)) letters) → {w : Word} {d : List ℕ} → Worded y i w d → Counts d 0 0
+word-counts y i known {d = d} q = counts-none d (every-word digit-neither (sign-neither .0) (sign-neither .1) y i (letter-neither (i .letter) known) q)
 
-words-counts : {tabs : Bool} {its : List Item} {ws : List Word} {r : List ℕ} → Fair its → Words tabs its ws r → Counts r 0 0
+words-counts : {y : Way} {its : List Item} {ws : List Word} {r : List ℕ} → Fair its → Words y its ws r → Counts r 0 0
 words-counts fair done = counts-none [] tt
-words-counts {tabs} (more k w d fair) (out h) = counts-both (tab-counts tabs) (words-counts fair h)
-words-counts {tabs} (more {it = i} k w d fair) (here q h) = counts-both (tab-counts tabs) (counts-both (word-counts i k q) (words-counts fair h))
+words-counts {y} (more k w d fair) (out h) = counts-both (tab-counts y) (words-counts fair h)
+words-counts {y} (more {it = i} k w d fair) (here q h) = counts-both (tab-counts y) (counts-both (word-counts y i k q) (words-counts fair h))
 
 end-counts : {e : List ℕ} → End e → Counts e 1 0
 unfolding tally isMark

@@ -3,7 +3,7 @@ use Prim.Native.Nat.{ℕ, zero, suc, _+_, _≤_, _<_}
 use mathlib.Core.Path.{_≡_, refl, sym, ap, _∙_, subst}
 use mathlib.Core.Bool.{Bool, true, false, cond}
 use mathlib.Core.List.{List, [], _∷_, _++_, append-assoc}
-use native.Mathlib.Nat.{le-refl}
+use native.Mathlib.Nat.{le-refl, zero-lt-suc}
 use native.Mathlib.Omega.{arith}
 use lib.ListN.{length, length-append, length-map}
 use lib.Dec.{eqb}
@@ -15,21 +15,23 @@ use Rattle.shorthand.specs.Facts.{Facts}
 use Rattle.reading.specs.declared.Block.{Block}
 use Rattle.reading.specs.Relation.{End, Blocks, none, more, Program, program}
 use Rattle.words.specs.declared.Wanted.{Wanted}
-use Rattle.words.specs.Figures.{Behind, taking, wrong, fronts, behind}
+use Rattle.words.specs.Figures.{Behind, wrong, fronts, behind}
 use Rattle.parts.specs.Ends.{ended}
 use Rattle.reading.specs.Parse.{BlockRead, blockAt, entry, blocksAt}
 use Rattle.parts.specs.Ends.{headAt}
 use Rattle.reading.specs.Answers.{programAt}
 use Rattle.reading.proofs.BlockTakes.{block-some}
-use Rattle.places.proofs.Steady.{Like, first-row, Refuses, refuses-bind, Held, at-row, at-end, held-after, Goes, took, held, goes-after, goes-map}
-use Rattle.places.proofs.BlockStops.{alone, EndStop, ended-goes, BlockStop, SomeBlock, block-goes}
+use Rattle.places.proofs.Steady.{Like, first-row, next-any, Refuses, refuses-bind, Held, at-end, held-after, Goes, took, held, goes-after, goes-alone, goes-map}
+use Rattle.places.proofs.Dues.{SomeBlock}
+use Rattle.places.proofs.Unread.{Unread, block-unread, behind-unread}
+use Rattle.places.proofs.BlockStops.{EndStop, ended-goes, BlockStop, block-goes}
 
 -- ---- the head
 
 pub data HeadStop : ℕ → List ℕ → List ℕ → List ℕ → Type 0 where
   no-percent : {c : ℕ} → (c ≡ 37 → ⊥) → HeadStop 8 [] [] (c ∷ [])
   cut-percent : HeadStop 8 [] [] []
-  in-end : {n : ℕ} {b ds w : List ℕ} {digit : Bool} → EndStop digit Wanted.Head n b ds w → HeadStop n (37 ∷ b) ds w
+  in-end : {n : ℕ} {b ds w : List ℕ} → EndStop (λ c. Unit {0}) Wanted.Head n b ds w → HeadStop n (37 ∷ b) ds w
 
 -- "%" and an end
 abbrev Headed : List ℕ → Type 0
@@ -44,10 +46,9 @@ head-goes len (r ∷ rs) = go (eqb (r .char) 37) refl
     go true e =
         let m = eqb-true (r .char) 37 e in
         goes-after {o = ended len Wanted.Head} (r ∷ []) refl (λ l h. ap (λ b. cond b (ended len Wanted.Head l) (refused 8 (r .place))) e)
-        (goes-map (λ a u l h. (u, h, rw m)) (λ n b ds w h. subst (λ c. HeadStop n (c ∷ b) ds w) (sym m) (in-end h)) (ended-goes len Wanted.Head rs))
+        (goes-map (λ a u l h. (u, h, rw m)) (λ n b ds w h. subst (λ c. HeadStop n (c ∷ b) ds w) (sym m) (in-end h)) (ended-goes len Wanted.Head (λ c. Unit {0}) rs (next-any (λ c. tt) rs)))
     go false e =
-        held (at-row [] [] [] rs r refl tt (no-percent (eqb-false (r .char) 37 e)) (λ h. absurd (omega arith))
-        (λ es l h k. alone (λ l. cond (fronts 37 l) (ended len Wanted.Head (behind l)) (wrong len Wanted.Head l)) r [] (λ l. rw e tt) es l k))
+        goes-alone 8 (r ∷ []) rs (zero-lt-suc 0) refl (no-percent (eqb-false (r .char) 37 e)) (λ h. absurd (omega arith)) (λ l. rw e tt)
 
 -- ---- all blocks
 
@@ -63,40 +64,28 @@ from-refused (taken a) g n p e = let z : _≡_ {A = ℕ} 0 1 = cc in absurd (ome
 from-refused (refused m q) g n p e = let a : m ≡ n = cc in let b : q ≡ p = cc in rw (a, b)
 
 module _ (f : Format) (facts : Facts f) (len : ℕ) where
-  -- rows that no fuel reads
-  abbrev Unread : List KeptRow → Type 0
-  Unread l = (k from : ℕ) → length l ≤ k → Refuses (blocksAt k len f from l)
+  -- a refused block behind rows like these
+  like-unread : {r : KeptRow} {rs : List KeptRow} (l : List KeptRow) → Like (r ∷ rs) l → Refuses (blockAt len f l) → Unread f len l
+  like-unread (s ∷ l) (first-row a) nay = block-unread f len (s ∷ l) (omega arith) nay
 
-  block-unread : {r : KeptRow} {rs : List KeptRow} (l : List KeptRow) → Like (r ∷ rs) l → Refuses (blockAt len f l) → Unread l
-  unfolding blocksAt
-  block-unread (s ∷ l) (first-row a) h zero from few = absurd (omega arith)
-  block-unread (s ∷ l) (first-row a) h (suc k) from few = refuses-bind (blockAt len f (s ∷ l)) _ h
-
-  blocks-unread : (u l : List KeptRow) (b : BlockRead) → 0 < length u → blockAt len f (u ++ l) ≡ taking b l → Unread l → Unread (u ++ l)
-  unfolding blocksAt
-  blocks-unread [] l b some e h k from few = absurd (omega arith)
-  blocks-unread (r ∷ u) l b some e h zero from few = absurd (omega arith)
-  blocks-unread (r ∷ u) l b some e h (suc k) from few =
-      rw e (refuses-bind (blocksAt k len f (b .lf + 1) l) _ (h k (b .lf + 1) (omega (arith, length-append u l))))
-
-  blocks-held : (k from : ℕ) (rs : List KeptRow) (n q : ℕ) → length rs ≤ k → blocksAt k len f from rs ≡ refused n q → Held Unread len (BlocksStop f) rs n q
+  blocks-held : (k from : ℕ) (rs : List KeptRow) (n q : ℕ) → length rs ≤ k → blocksAt k len f from rs ≡ refused n q → Held (Unread f len) len (BlocksStop f) rs n q
   unfolding blocksAt
   blocks-held zero from rs n q few e = let z : _≡_ {A = ℕ} 0 1 = cc in absurd (omega arith)
   blocks-held (suc k) from [] n q few e = let z : _≡_ {A = ℕ} 0 1 = cc in absurd (omega arith)
-  blocks-held (suc k) from (r ∷ rs) n q few e = go (block-goes f len facts (r ∷ rs)) e (λ to rest. blocks-held k to rest n q)
+  blocks-held (suc k) from (r ∷ rs) n q few e = go (block-goes f facts len (r ∷ rs)) e (λ to rest. blocks-held k to rest n q)
     where
       go : {x : Answer (Behind BlockRead)} → Goes (blockAt len f) len (λ b u l. SomeBlock f u) (BlockStop f) (r ∷ rs) x
           → (x >>= λ b. blocksAt k len f (b .value .lf + 1) (b .rest) >>= λ es. taken (entry from (b .value) ∷ es)) ≡ refused n q
-          → ((to : ℕ) (rest : List KeptRow) → length rest ≤ k → blocksAt k len f to rest ≡ refused n q → Held Unread len (BlocksStop f) rest n q) → Held Unread len (BlocksStop f) (r ∷ rs) n q
+          → ((to : ℕ) (rest : List KeptRow) → length rest ≤ k → blocksAt k len f to rest ≡ refused n q → Held (Unread f len) len (BlocksStop f) rest n q) → Held (Unread f len) len (BlocksStop f) (r ∷ rs) n q
       go (held {n = m} {q = p} h) e ih =
           let a : m ≡ n = cc in
           let b : p ≡ q = cc in
-          rw (← a, ← b) (held-after [] refl (λ l k nay. block-unread l k nay) (λ n b ds w z. in-block none z) h)
+          rw (← a, ← b) (held-after [] refl (λ l k nay. like-unread l k nay) (λ n b ds w z. in-block none z) h)
       go (took {a} {rest} u split is t) e ih =
           let some : 0 < length u = omega (arith, block-some (is .1), length-map u (λ s. s .char)) in
           let whole : suc (length rs) ≡ length u + length rest = ap length split ∙ length-append u rest in
           let left : length rest ≤ k = omega arith in
-          held-after u split (λ l h nay. blocks-unread u l a some (t l h) nay) (behind-block is)
+          held-after u split (λ l h nay. behind-unread f len (u ++ l) l a (t l h) (omega (arith, some, length-append u l)) nay) (behind-block is)
           (ih (a .lf + 1) rest left (from-refused (blocksAt k len f (a .lf + 1) rest) (λ es. entry from a ∷ es) n q e))
 
 -- ---- the program

@@ -2,7 +2,7 @@
 use Prim.Native.Nat.{ℕ, _^_, _≤_, _<_}
 use mathlib.Core.Path.{_≡_, refl, sym, ap, _∙_, subst}
 use mathlib.Core.Bool.{false, false≢true}
-use mathlib.Core.List.{List, [], _∷_, _++_, append-assoc, map}
+use mathlib.Core.List.{List, [], _∷_, _++_, append-assoc}
 use native.Mathlib.Omega.{arith}
 use lib.ListN.{length, length-map, length-replicate}
 use lib.Dec.{T}
@@ -10,55 +10,34 @@ use Rattle.rows.specs.Answer.{refused}
 use Rattle.rows.specs.Kept.{KeptRow}
 use Rattle.rows.specs.Passes.{Every}
 use Rattle.speeds.specs.Meaning.{secondZero}
+use Rattle.shorthand.specs.declared.Kind.{Kind}
 use Rattle.shorthand.specs.declared.Item.{Item}
 use Rattle.shorthand.specs.declared.Format.{Format}
-use Rattle.shorthand.specs.Facts.{Facts}
+use Rattle.shorthand.specs.Layout.{wayOf}
+use Rattle.shorthand.specs.Facts.{Widths, Facts}
 use Rattle.reading.specs.declared.Block.{Block}
-use Rattle.reading.specs.Relation.{digits, zeros, Program, chars}
+use Rattle.reading.specs.Relation.{digits, zeros, address, Program, chars}
 use Rattle.words.specs.Figures.{digitNext}
 use Rattle.reading.specs.Answers.{programAt}
+use Rattle.reading.proofs.DigitRows.{digits-length}
 use Rattle.reading.proofs.RowsAhead.{is-digit}
 use Rattle.reading.proofs.Complete.{complete}
 use Rattle.reading.proofs.Outcomes.{chars-append}
 use Rattle.places.specs.Begins.{Digit, Begins}
-use Rattle.places.specs.Faults.{EndDue, Misfit, SpeedDue, Spoilt, Refusal, at-cr, at-address, at-length, past-saving, cut-past-saving}
+use Rattle.places.specs.Faults.{EndDue, Misfit, SpeedDue, Spoilt, Refusal, at-cr, at-word, at-length, past-saving, cut-past-saving}
 use Rattle.places.proofs.Steady.{Refuses, Held, at-row, at-end}
 use Rattle.places.proofs.DigitLists.{zeros-digit}
 use Rattle.places.proofs.ProgramStops.{ProgramStop, program-held}
 use Rattle.places.proofs.Ahead.{zeros-begin}
-use Rattle.places.proofs.Addressed.{item-widths, spoilt-begins}
-use Rattle.places.proofs.Told.{Short, Told, misfit, no-lf-behind, code, short, spoilt, spoilt-short, short-cut, program-told}
+use Rattle.places.proofs.Dues.{due-item, item-widths, rowsOf, chars-of}
+use Rattle.places.proofs.Follows.{spoilt-begins}
+use Rattle.places.proofs.Told.{Short, Told, misfit, no-lf-behind, code, short, spoilt, spoilt-short, short-cut, both-empty, program-told}
 
 -- ---- rows with given characters
-
--- rows of a list of characters, their places of no account
-abbrev rowsOf : List ℕ → List KeptRow
-rowsOf cs = map (λ c. record { place = 0; char = c }) cs
-
-chars-of : (cs : List ℕ) → chars (rowsOf cs) ≡ cs
-chars-of [] = refl
-chars-of (c ∷ cs) = ap (λ l. c ∷ l) (chars-of cs)
 
 no-rows : (rs : List KeptRow) → chars rs ≡ [] → rs ≡ []
 no-rows [] e = refl
 no-rows (r ∷ rs) e = let z = ap length e in absurd (omega arith)
-
--- the rows of the one part and of the other
-record Parted (rs : List KeptRow) (x y : List ℕ) : Type 0 where
-  left : List KeptRow
-  right : List KeptRow
-  split : rs ≡ left ++ right
-  of-left : chars left ≡ x
-  of-right : chars right ≡ y
-
-parted : (rs : List KeptRow) (x y : List ℕ) → chars rs ≡ x ++ y → Parted rs x y
-parted rs [] y e = record { left = []; right = rs; split = refl; of-left = refl; of-right = e }
-parted [] (c ∷ x) y e = let z = ap length e in absurd (omega arith)
-parted (r ∷ rs) (c ∷ x) y e =
-    let a : r .char ≡ c = cc in
-    let b : chars rs ≡ x ++ y = cc in
-    let p = parted rs x y b in
-    record { left = r ∷ p .left; right = p .right; split = ap (λ l. r ∷ l) (p .split); of-left = rw (a, p .of-left); of-right = p .of-right }
 
 -- ---- rows that are refused whatever follows begin no program's rows
 
@@ -79,6 +58,18 @@ one-row (s ∷ w) c e =
     let k : s .char ≡ c = cc in
     let n : chars w ≡ [] = cc in
     (s, ap (λ l. s ∷ l) (no-rows w n), k)
+
+-- ---- digits past saving
+
+module _ (f : Format) (facts : Facts f) (b es : List KeptRow) (k : ℕ) (it : Item) (x : List ℕ) (e : chars b ≡ x ++ address (wayOf f) it) (due : SpeedDue f it k x) where
+  past-begins : Spoilt (chars es) → Every Digit (chars es) → length (chars es) ≤ k → Begins f (chars b ++ chars es) → ⊥
+  past-begins s all few h = spoilt-begins facts due (chars es) s all few (rw (← e) h)
+
+  -- zeros in their place begin a program's rows
+  zeros-save : length (chars es) ≤ k → (o : List ℕ) × Every Digit o × (length o ≡ length es) × Begins f (chars b ++ o)
+  zeros-save few =
+      let n = length-map es (λ s. s .char) in
+      (zeros (length es), zeros-digit (length es), length-replicate (length es) 48, rw e (zeros-begin it (item-widths (facts .fair) (due-item (due .due))) x (due .due) (due .speed) (length es) (omega arith)))
 
 -- ---- refused at a row
 
@@ -107,27 +98,19 @@ module _ (f : Format) (facts : Facts f) (len : ℕ) (rs b es w a : List KeptRow)
       let up-to : chars b ++ (13 ∷ (s .0 .char ∷ [])) ≡ chars b ++ (chars es ++ (r .char ∷ chars w)) = rw (none, k, l, s .2) in
       at-cr b a r (s .0) whole due k (λ e. nlf (sym (s .2) ∙ e)) begins (unsaved es all refl _ up-to)
 
-  code-refused : (k c : ℕ) (it : Item) → digitNext a ≡ false → chars es ≡ [] → r .char ≡ it .letter → chars w ≡ digits k c → SpeedDue f it k (chars b) → c < 10 ^ k → T (secondZero k c) → Begins f (chars b) → Refusal f len rs 13 (r .place)
-  code-refused k c it apart none l v due small z begins =
+  code-refused : (k c : ℕ) (it : Item) → digitNext a ≡ false → chars es ≡ [] → chars (r ∷ w) ≡ address (wayOf f) it ++ digits k c → SpeedDue f it k (chars b) → c < 10 ^ k → T (secondZero k c)
+      → Begins f (chars b) → Refusal f len rs 13 (r .place)
+  code-refused k c it apart none v due small z begins =
       let whole : rs ≡ b ++ (r ∷ (w ++ a)) = split ∙ ap (λ d. b ++ (d ++ (r ∷ (w ++ a)))) (no-rows es none) in
       let up-to : chars b ++ chars (r ∷ w) ≡ chars b ++ (chars es ++ (r .char ∷ chars w)) = rw none in
-      at-address c b w a r whole due l v small z (λ d o q h. false≢true (sym apart ∙ ap digitNext q ∙ is-digit (d .char) h)) begins (unsaved es all refl _ up-to)
+      at-word c b w a r whole due v small z (λ d o q h. false≢true (sym apart ∙ ap digitNext q ∙ is-digit (d .char) h)) begins (unsaved es all refl _ up-to)
 
-  spoilt-refused : (k c : ℕ) (it : Item) (x : List ℕ) → chars b ≡ x ++ (it .letter ∷ []) → r .char ≡ c → chars w ≡ [] → SpeedDue f it k x → Spoilt (chars es) → length (chars es) ≤ k
-      → Misfit f 11 (x ++ (it .letter ∷ chars es)) c → Refusal f len rs 11 (r .place)
+  spoilt-refused : (k c : ℕ) (it : Item) (x : List ℕ) → chars b ≡ x ++ address (wayOf f) it → r .char ≡ c → chars w ≡ [] → SpeedDue f it k x → Spoilt (chars es) → length (chars es) ≤ k
+      → Misfit f 11 (chars b ++ chars es) c → Refusal f len rs 11 (r .place)
   spoilt-refused k c it x e v l due s few m =
-      let p = parted b x (it .letter ∷ []) e in
-      let q = one-row (p .right) (it .letter) (p .of-right) in
-      let whole : rs ≡ p .left ++ (q .0 ∷ (es ++ (r ∷ a))) =
-      split ∙ ap (λ v. b ++ (es ++ (r ∷ (v ++ a)))) (no-rows w l) ∙ ap (λ v. v ++ (es ++ (r ∷ a))) (p .split ∙ ap (λ v. p .left ++ v) (q .1))
-      ∙ append-assoc (p .left) (q .0 ∷ []) (es ++ (r ∷ a)) in
-      let up-to : (o : List ℕ) → chars (p .left) ++ (it .letter ∷ (o ++ (r .char ∷ []))) ≡ chars b ++ (chars (rowsOf o) ++ (r .char ∷ chars w)) =
-      λ o. rw (p .of-left, e, l, chars-of o) (sym (append-assoc x (it .letter ∷ []) (o ++ (r .char ∷ [])))) in
-      let n = length-map es (λ s. s .char) in
-      past-saving (p .left) es a (q .0) r whole (subst (λ y. SpeedDue f it k y) (sym (p .of-left)) due) (q .2) s all
-      (subst (λ y. Misfit f 11 (y ++ (it .letter ∷ chars es)) (r .char)) (sym (p .of-left)) (subst (λ d. Misfit f 11 (x ++ (it .letter ∷ chars es)) d) (sym v) m))
-      (spoilt-begins facts due (chars (p .left)) (chars es) s few)
-      (zeros (length es), zeros-digit (length es), length-replicate (length es) 48, rw (p .of-left) (zeros-begin it (item-widths (facts .fair) (due .item)) x (due .due) (due .speed) (length es) (omega arith)))
+      let whole : rs ≡ b ++ (es ++ (r ∷ a)) = split ∙ ap (λ v. b ++ (es ++ (r ∷ (v ++ a)))) (no-rows w l) in
+      let up-to : (o : List ℕ) → chars b ++ (o ++ (r .char ∷ [])) ≡ chars b ++ (chars (rowsOf o) ++ (r .char ∷ chars w)) = λ o. rw (l, chars-of o) in
+      past-saving b es a r x whole due e s all (subst (λ d. Misfit f 11 (chars b ++ chars es) d) (sym v) m) (past-begins f facts b es k it x e due s all few) (zeros-save f facts b es k it x e due few)
       (λ o h j. unsaved (rowsOf o) (rw (chars-of o) h) (length-map o (λ c. record { place = 0; char = c }) ∙ j) _ (up-to o))
 
   row-refused : {n : ℕ} {x ds v : List ℕ} → Told f n x ds v → (n ≡ 13 → digitNext a ≡ false) → chars b ≡ x → chars es ≡ ds → r .char ∷ chars w ≡ v → Refusal f len rs n (r .place)
@@ -140,14 +123,12 @@ module _ (f : Format) (facts : Facts f) (len : ℕ) (rs b es w a : List KeptRow)
       let l : chars w ≡ c ∷ [] = cc in
       cr-refused n c ed k l (subst (EndDue f n) (sym eb) due) nlf (subst (λ y. Begins f (y ++ (13 ∷ []))) (sym eb) begins)
   row-refused (code {k} {it} c due small z begins) lone eb ed ev =
-      let l : r .char ≡ it .letter = cc in
-      let v : chars w ≡ digits k c = cc in
-      code-refused k c it (lone refl) ed l v (subst (λ y. SpeedDue f it k y) (sym eb) due) small z (subst (Begins f) (sym eb) begins)
+      code-refused k c it (lone refl) ed ev (subst (λ y. SpeedDue f it k y) (sym eb) due) small z (subst (Begins f) (sym eb) begins)
   row-refused (short e s begins) lone eb ed ev = let z = ap length ev in absurd (omega arith)
   row-refused (spoilt {k} {c} {it} {x = y} e due s few m) lone eb ed ev =
       let v : r .char ≡ c = cc in
       let l : chars w ≡ [] = cc in
-      spoilt-refused k c it y (eb ∙ e) v l due (subst Spoilt (sym ed) s) (subst (λ d. length d ≤ k) (sym ed) few) (subst (λ d. Misfit f 11 (y ++ (it .letter ∷ d)) c) (sym ed) m)
+      spoilt-refused k c it y (eb ∙ e) v l due (subst Spoilt (sym ed) s) (subst (λ d. length d ≤ k) (sym ed) few) (rw (eb, ed) m)
   row-refused (spoilt-short e due s h few c) lone eb ed ev = let z = ap length ev in absurd (omega arith)
 
 -- ---- refused at the length
@@ -159,21 +140,21 @@ module _ (f : Format) (facts : Facts f) (len : ℕ) (rs b es : List KeptRow) (sp
   end-refused : {n : ℕ} {x ds v : List ℕ} → Told f n x ds v → chars b ≡ x → chars es ≡ ds → v ≡ [] → Refusal f len rs n len
   end-refused (misfit e m begins) eb ed ev = let z = ap length ev in absurd (omega arith)
   end-refused (no-lf-behind due nlf begins) eb ed ev = let z = ap length ev in absurd (omega arith)
-  end-refused (code c due small z begins) eb ed ev = let z = ap length ev in absurd (omega arith)
+  end-refused (code {k} {it} c due small z begins) eb ed ev =
+      let speeds : Widths (Kind.Speed k) = subst Widths (due .speed) (item-widths (facts .fair) (due-item (due .due))) in
+      let none = ap length (both-empty (address (wayOf f) it) (digits k c) ev .1) in
+      absurd (omega (arith, speeds .0, digits-length k c))
   end-refused (short {n = n} {x = y} e s begins) eb ed ev =
       let is : y ≡ chars rs = e ∙ sym (all-rows ∙ rw (eb, ed)) in
       at-length (short-cut (subst (Short f n) is s) nay) (subst (Begins f) is begins)
   end-refused (spoilt e due s few m) eb ed ev = let z = ap length ev in absurd (omega arith)
   end-refused (spoilt-short {k} {it} {x = y} {ds = ds} e due s h few c) eb ed ev =
-      let p = parted b y (it .letter ∷ []) (eb ∙ e) in
-      let q = one-row (p .right) (it .letter) (p .of-right) in
-      let whole : rs ≡ p .left ++ (q .0 ∷ es) = split ∙ ap (λ v. v ++ es) (p .split ∙ ap (λ v. p .left ++ v) (q .1)) ∙ append-assoc (p .left) (q .0 ∷ []) es in
-      let is : y ++ (it .letter ∷ ds) ≡ chars rs = sym (all-rows ∙ rw (eb ∙ e, ed) (append-assoc y (it .letter ∷ []) ds)) in
-      let n : length es ≡ length ds = sym (length-map es (λ s. s .char)) ∙ ap length ed in
-      cut-past-saving (p .left) es (q .0) whole (subst (λ y. SpeedDue f it k y) (sym (p .of-left)) due) (q .2) (subst Spoilt (sym ed) s) (subst (Every Digit) (sym ed) h) (omega arith)
-      (short-cut (subst (Short f 14) is c) nay)
-      (λ g. spoilt-begins facts due y ds s (omega arith) (subst (Begins f) (sym is) g))
-      (zeros (length es), zeros-digit (length es), length-replicate (length es) 48, rw (p .of-left) (zeros-begin it (item-widths (facts .fair) (due .item)) y (due .due) (due .speed) (length es) (omega arith)))
+      let is : chars b ++ ds ≡ chars rs = sym (all-rows ∙ rw ed) in
+      let n : length (chars es) ≡ length ds = ap length ed in
+      let most : length (chars es) ≤ k = omega arith in
+      cut-past-saving b es y split due (eb ∙ e) (subst Spoilt (sym ed) s) (subst (Every Digit) (sym ed) h) (omega (arith, length-map es (λ s. s .char)))
+      (short-cut (subst (Short f 14) (ap (λ l. l ++ ds) (sym eb) ∙ is) c) nay)
+      (λ g. past-begins f facts b es k it y (eb ∙ e) due (subst Spoilt (sym ed) s) (subst (Every Digit) (sym ed) h) most (subst (Begins f) all-rows g)) (zeros-save f facts b es k it y (eb ∙ e) due most)
 
 -- ---- the theorem
 

@@ -1,12 +1,12 @@
 -- The theorem for whole tapes: what the answer of reading, refused by 8 to 14, says of the tape.
 use Prim.Native.Nat.{ℕ, _≤_}
 use mathlib.Core.Path.{_≡_, refl}
-use mathlib.Core.Logic.{⊎-elim}
 use mathlib.Core.Bool.{Bool, true, false, cond}
 use mathlib.Core.List.{List}
 use native.Mathlib.Omega.{arith}
 use lib.ListN.{length}
 use lib.Dec.{ltb}
+use borrow.Author.Tests.{ne-eqb}
 use Rattle.rows.specs.Answer.{Answer, taken, refused, _>>=_, _>>_}
 use Rattle.rows.specs.Stages.{limit, barred, scan, refuseAt, inLimit, judged}
 use Rattle.rows.specs.declared.Found.{Found}
@@ -15,19 +15,19 @@ use Rattle.rows.specs.declared.Side.the-variants.{Outside}
 use Rattle.rows.specs.Kept.{kept}
 use Rattle.rows.proofs.Judged.{clean-passes}
 use Rattle.shorthand.specs.declared.Format.{Format}
-use Rattle.shorthand.specs.Parse.{parsed}
-use Rattle.shorthand.proofs.Accepted.{sound}
-use Rattle.shorthand.proofs.Fairness.{lawful-facts}
-use Rattle.shorthand.proofs.Refusals.{refusals}
+use Rattle.profile.specs.Answers.{agreed}
+use Rattle.profile.proofs.Settling.{settled-exactly, unsettled-exactly, settled-facts, refused-numbers}
 use Rattle.reading.specs.Answers.{programAt, read, readUnder}
 use Rattle.places.specs.Faults.{RefusalOf}
 use Rattle.places.proofs.RefusedRows.{refused-rows}
 
 -- ---- the stages before
 
--- the shorthand is refused by 1, 2 or 3
-shorthand-low : (e : ℕ) (s : List ℕ) (n p : ℕ) → parsed e s ≡ refused n p → n ≤ 3
-shorthand-low e s n p q = ⊎-elim {C = n ≤ 3} (λ r. omega arith) (λ r. ⊎-elim {C = n ≤ 3} (λ h. omega arith) (λ h. omega arith) (r .0)) (refusals e s n p q)
+-- neither the shorthand nor the profile is refused by 8 to 14
+settling-other : (e : ℕ) (s p : List ℕ) (n k : ℕ) → 8 ≤ n → n ≤ 14 → agreed e s p ≡ refused n k → ⊥
+settling-other e s p n k low high q =
+    rw (ne-eqb n 1 (λ e. omega arith), ne-eqb n 2 (λ e. omega arith), ne-eqb n 3 (λ e. omega arith), ne-eqb n 22 (λ e. omega arith), ne-eqb n 23 (λ e. omega arith)) at
+    (refused-numbers (unsettled-exactly e s p n k .0 q))
 
 stage-low : (m n p : ℕ) (x : Found) → m ≤ 7 → refuseAt m x ≡ refused n p → n ≤ 7
 stage-low m n p Nowhere l e = let z : _≡_ {A = ℕ} 0 1 = cc in absurd (omega arith)
@@ -55,21 +55,21 @@ judged-low t n p e =
 
 -- ---- the theorem
 
-module _ (e : ℕ) (s t : List ℕ) (n p : ℕ) (late : 8 ≤ n) where
-  under : (f : Format) → parsed e s ≡ taken f → read f t ≡ refused n p → RefusalOf e s t n p
+module _ (e : ℕ) (s p t : List ℕ) (n k : ℕ) (late : 8 ≤ n) where
+  under : (f : Format) → agreed e s p ≡ taken f → read f t ≡ refused n k → RefusalOf e s p t n k
   unfolding read
   under f q r = go (judged t) refl r
     where
-      go : (j : Answer (Unit {0})) → judged t ≡ j → (j >> programAt (length t) f (kept t)) ≡ refused n p → RefusalOf e s t n p
+      go : (j : Answer (Unit {0})) → judged t ≡ j → (j >> programAt (length t) f (kept t)) ≡ refused n k → RefusalOf e s p t n k
       go (taken u) j r =
-          let h = sound e s f q in
-          record { format = f; lawful = h .1; spelt = h .0; passes = clean-passes t j; says = refused-rows f (lawful-facts (h .1)) (length t) (kept t) n p r }
-      go (refused m o) j r = let k : m ≡ n = cc in absurd (omega (arith, judged-low t m o j))
+          let h = settled-exactly e s p f .0 q in
+          record { format = f; settled = h; passes = clean-passes t j; says = refused-rows f (settled-facts h) (length t) (kept t) n k r }
+      go (refused m o) j r = let z : m ≡ n = cc in absurd (omega (arith, judged-low t m o j))
 
-  pub tape-refused : readUnder e s t ≡ refused n p → RefusalOf e s t n p
+  pub tape-refused : n ≤ 14 → readUnder e s p t ≡ refused n k → RefusalOf e s p t n k
   unfolding readUnder
-  tape-refused r = go (parsed e s) refl r
+  tape-refused early r = go (agreed e s p) refl r
     where
-      go : (x : Answer Format) → parsed e s ≡ x → (x >>= λ f. read f t) ≡ refused n p → RefusalOf e s t n p
+      go : (x : Answer Format) → agreed e s p ≡ x → (x >>= λ f. read f t) ≡ refused n k → RefusalOf e s p t n k
       go (taken f) q r = under f q r
-      go (refused m o) q r = let k : m ≡ n = cc in absurd (omega (arith, shorthand-low e s m o q))
+      go (refused m o) q r = let z : m ≡ n = cc in absurd (settling-other e s p m o (omega arith) (omega arith) q)

@@ -16,12 +16,12 @@ use Rattle.places.proofs.DigitLists.{digit-is}
 
 -- ---- the digits of a speed, and what stands behind them
 
--- 13 behind all digits and no further one; 11 at another row before there are enough, or at a digit too many; 14 where the tape ends
-pub data Run (len k : ℕ) (l : KeptRow) (ds rest : List KeptRow) : ℕ → ℕ → Type 0 where
-  whole : length ds ≡ k → digitNext rest ≡ false → Run len k l ds rest 13 (l .place)
-  few : (r : KeptRow) (a : List KeptRow) → rest ≡ r ∷ a → length ds < k → (Digit (r .char) → ⊥) → Run len k l ds rest 11 (r .place)
-  many : (r : KeptRow) (a : List KeptRow) → rest ≡ r ∷ a → length ds ≡ k → Digit (r .char) → Run len k l ds rest 11 (r .place)
-  out : rest ≡ [] → length ds < k → Run len k l ds rest 14 len
+-- 13, at the place a of the word's first row, behind all digits and no further one; 11 at another row before there are enough, or at a digit too many; 14 where the tape ends
+pub data Run (len k a : ℕ) (ds rest : List KeptRow) : ℕ → ℕ → Type 0 where
+  whole : length ds ≡ k → digitNext rest ≡ false → Run len k a ds rest 13 a
+  few : (r : KeptRow) (o : List KeptRow) → rest ≡ r ∷ o → length ds < k → (Digit (r .char) → ⊥) → Run len k a ds rest 11 (r .place)
+  many : (r : KeptRow) (o : List KeptRow) → rest ≡ r ∷ o → length ds ≡ k → Digit (r .char) → Run len k a ds rest 11 (r .place)
+  out : rest ≡ [] → length ds < k → Run len k a ds rest 14 len
 
 module _ {rest : List KeptRow} where
   pub not-next : (r : KeptRow) (a : List KeptRow) → rest ≡ r ∷ a → (Digit (r .char) → ⊥) → digitNext rest ≡ false
@@ -37,14 +37,14 @@ module _ {rest : List KeptRow} where
   first-same : (r s : KeptRow) (a b : List KeptRow) → rest ≡ r ∷ a → rest ≡ s ∷ b → r ≡ s
   first-same r s a b e h = cc
 
-module _ {len k : ℕ} {l : KeptRow} {ds rest : List KeptRow} where
-  pub run-stop : {n p : ℕ} → Run len k l ds rest n p → (length ds ≡ k) ⊎ (digitNext rest ≡ false)
+module _ {len k a : ℕ} {ds rest : List KeptRow} where
+  pub run-stop : {n p : ℕ} → Run len k a ds rest n p → (length ds ≡ k) ⊎ (digitNext rest ≡ false)
   run-stop (whole e h) = inl e
   run-stop (few r a e h n) = inr (not-next r a e n)
   run-stop (many r a e h d) = inl h
   run-stop (out e h) = inr (ap digitNext e)
 
-  pub run-one : {n m p q : ℕ} → Run len k l ds rest n p → Run len k l ds rest m q → (n ≡ m) × (p ≡ q)
+  pub run-one : {n m p q : ℕ} → Run len k a ds rest n p → Run len k a ds rest m q → (n ≡ m) × (p ≡ q)
   run-one (whole e h) (whole g i) = (refl, refl)
   run-one (whole e h) (few r a g i n) = absurd (omega arith)
   run-one (whole e h) (many r a g i d) = absurd (next-digit r a g d h)

@@ -1,5 +1,5 @@
 -- How a parser goes on rows and on all rows that it cannot tell from them, as a family over its answer; and how that goes through `>>=` and `cond`.
-use Prim.Native.Nat.{ℕ}
+use Prim.Native.Nat.{ℕ, _<_}
 use mathlib.Core.Path.{_≡_, refl, sym, ap, _∙_, subst}
 use mathlib.Core.Logic.{_⊎_, inl, inr}
 use mathlib.Core.Bool.{Bool, true, false, cond}
@@ -10,7 +10,7 @@ use Rattle.rows.specs.Answer.{Answer, taken, refused, _>>=_}
 use Rattle.rows.specs.Kept.{KeptRow}
 use Rattle.rows.specs.Passes.{Every}
 use Rattle.reading.specs.Relation.{chars}
-use Rattle.words.specs.Figures.{Behind, taking, digitNext}
+use Rattle.words.specs.Figures.{Behind, taking, frontPlace, digitNext}
 use Rattle.reading.proofs.Outcomes.{chars-append}
 use Rattle.places.specs.Begins.{Digit}
 
@@ -34,6 +34,15 @@ like-digits [] [] x y r p q e = first-row (inl refl)
 like-digits [] (s ∷ es) x y r p q e = absurd (omega arith)
 like-digits (d ∷ ds) [] x y r p q e = absurd (omega arith)
 like-digits (d ∷ ds) (s ∷ es) x y r p q e = first-row (inr (p .0, q .0))
+
+-- P of the row at the front, where there is one
+abbrev pub Next : (ℕ → Type 0) → List KeptRow → Type 0
+Next P [] = Unit {0}
+Next P (r ∷ rs) = P (r .char)
+
+pub next-any : {P : ℕ → Type 0} → ((c : ℕ) → P c) → (rs : List KeptRow) → Next P rs
+next-any h [] = tt
+next-any h (r ∷ rs) = h (r .char)
 
 -- ---- a refusal
 
@@ -80,6 +89,21 @@ module _ {A : Type 0} {len : ℕ} {R : A → List ℕ → List KeptRow → Type 
       took {a = a} (u ++ v) (e ∙ ap (λ l. u ++ l) split ∙ sym (append-assoc u v rest)) (rw (chars-append u v) is)
       (λ l h. ap p (append-assoc u v l) ∙ same (v ++ l) (subst (λ x. Like x (v ++ l)) (sym split) (like-after v h)) ∙ t l h)
   goes-after u e same (held h) = held (held-after u e (λ l k no. subst Refuses (sym (same l k)) no) (λ n b ds w q. q) h)
+
+  -- where the parser goes as o does
+  pub goes-as : {o p : List KeptRow → Answer (Behind A)} (rs : List KeptRow) → ((l : List KeptRow) → p l ≡ o l) → Goes o len R Q rs (o rs) → Goes p len R Q rs (p rs)
+  goes-as {o} rs same h = goes-after [] refl (λ l k. same l) (subst (λ x. Goes o len R Q rs x) (sym (same rs)) h)
+
+  -- refused at the first of the rows s, whatever stands behind them
+  pub goes-alone : {p : List KeptRow → Answer (Behind A)} {rs : List KeptRow} (n : ℕ) (s a : List KeptRow) → 0 < length s → rs ≡ s ++ a → Q n [] [] (chars s) → (n ≡ 13 → digitNext a ≡ false)
+      → ((l : List KeptRow) → Refuses (p (s ++ l))) → Goes p len R Q rs (refused n (frontPlace rs))
+  goes-alone n [] a some e is lone nay = absurd (omega arith)
+  goes-alone {p} n (r ∷ w) a some e is lone nay =
+      subst (λ l. Goes p len R Q l (refused n (frontPlace l))) (sym e) (held (at-row [] [] w a r refl tt is lone (λ es l h k. alone es l k)))
+    where
+      alone : (es l : List KeptRow) → length es ≡ 0 → Refuses (p (es ++ (r ∷ (w ++ l))))
+      alone [] l k = nay l
+      alone (d ∷ es) l k = absurd (omega arith)
 
   -- a test that goes by the first row
   pub goes-if : (t : List KeptRow → Bool) → ((x y : List KeptRow) → Like x y → t x ≡ t y) → {o p : List KeptRow → Answer (Behind A)} (rs : List KeptRow)

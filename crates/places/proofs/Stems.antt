@@ -3,31 +3,26 @@ use Prim.Native.Nat.{ℕ}
 use mathlib.Core.Path.{_≡_, refl, sym, ap, _∙_, subst}
 use mathlib.Core.Logic.{_⊎_, inl, inr}
 use mathlib.Core.Bool.{Bool, true, false, _||_, cond, false≢true}
-use mathlib.Core.List.{List, [], _∷_, _++_, append-nil, append-assoc, List·Memᴰ}
+use mathlib.Core.List.{List, [], _∷_, _++_, append-nil, append-assoc}
 use native.Mathlib.Omega.{arith}
 use lib.IntN.{ℤ}
 use lib.Dec.{T, eqb}
 use borrow.Author.Tests.{eqb-true, eqb-false, ne-eqb}
 use Rattle.rows.specs.Passes.{Every}
-use Rattle.shorthand.specs.declared.Item.{Item}
 use Rattle.shorthand.specs.declared.Format.{Format}
-use Rattle.shorthand.specs.Layout.{Sign, itemsOf}
+use Rattle.shorthand.specs.Layout.{Sign}
 use Rattle.shorthand.specs.Edition.{letters, anyOf}
 use Rattle.shorthand.specs.Facts.{Facts}
 use Rattle.reading.specs.declared.Block.{Block}
 use Rattle.reading.specs.Relation.{Signed, End, lf, cr-lf, skipRows, sequenceRows, Blocked, block, Blocks, Program, program}
-use Rattle.words.specs.Figures.{isDigit, isSign}
+use Rattle.words.specs.Figures.{isFigure}
 use Rattle.reading.proofs.ReadData.{either}
 use Rattle.reading.proofs.WordsTake.{fails}
 use Rattle.reading.proofs.RowsAhead.{is-digit}
 use Rattle.places.specs.Begins.{Digit}
 use Rattle.places.proofs.Behind.{every-digit, every-sign}
-use Rattle.places.proofs.Addressed.{item-letter}
 
 -- ---- the last character that is neither digit nor sign
-
-abbrev pub isFigure : ℕ → Bool
-isFigure c = isDigit c || isSign c
 
 unfoldable pub stem : List ℕ → ℕ
 stem [] = 0
@@ -78,8 +73,12 @@ inHead c = eqb c 0 || eqb c 37
 abbrev pub inNumber : ℕ → Bool
 inNumber c = eqb c 10 || eqb c 47 || eqb c 58 || eqb c 78
 
+-- an item's letter, or a tab
+abbrev pub wordMarks : List ℕ
+wordMarks = 9 ∷ letters
+
 abbrev pub inWord : ℕ → Type 0
-inWord c = T (anyOf (λ d. eqb d c) letters)
+inWord c = T (anyOf (λ d. eqb d c) wordMarks)
 
 pub head-number : (c : ℕ) → inHead c ≡ true → inNumber c ≡ true → ⊥
 head-number c h k = go (either (eqb c 0) (eqb c 37) h)
@@ -89,16 +88,14 @@ head-number c h k = go (either (eqb c 0) (eqb c 37) h)
     go (inr e) = false≢true (sym (ap inNumber (eqb-true c 37 e)) ∙ k)
 
 pub head-word : (c : ℕ) → inHead c ≡ true → inWord c → ⊥
-head-word c h k = false≢true (sym (fails inHead letters c k refl) ∙ h)
+head-word c h k = false≢true (sym (fails inHead wordMarks c k refl) ∙ h)
 
 pub number-word : (c : ℕ) → inNumber c ≡ true → inWord c → ⊥
-number-word c h k = false≢true (sym (fails inNumber letters c k refl) ∙ h)
+number-word c h k = false≢true (sym (fails inNumber wordMarks c k refl) ∙ h)
 
 module _ {f : Format} (facts : Facts f) where
-  pub stem-letter : (it : Item) (y z : List ℕ) → List·Memᴰ it (itemsOf f) → Every Figure z → stem (y ++ (it .letter ∷ z)) ≡ it .letter
-  stem-letter it y z i all =
-      let known = item-letter (facts .fair) i in
-      stem-at y (it .letter) z (fails isFigure letters (it .letter) known refl) (eqb-false (it .letter) 0 (fails (λ d. eqb d 0) letters (it .letter) known refl)) all
+  pub stem-word : (y : List ℕ) (l : ℕ) (z : List ℕ) → inWord l → Every Figure z → stem (y ++ (l ∷ z)) ≡ l
+  stem-word y l z known all = stem-at y l z (fails isFigure wordMarks l known refl) (eqb-false l 0 (fails (λ d. eqb d 0) wordMarks l known refl)) all
 
   pub stem-number : (y : List ℕ) (alignment : Bool) (ds : List ℕ) → Every Digit ds → inNumber (stem (y ++ (cond alignment 58 78 ∷ ds))) ≡ true
   stem-number y true ds all = rw (stem-at y 58 ds refl (λ e. omega arith) (every-digit digit-figure refl refl ds all))

@@ -3,8 +3,8 @@ use Prim.Native.Nat.{ℕ, suc, _+_, _%_, _≤_, _<_}
 use mathlib.Core.Path.{_≡_, refl, sym, ap, _∙_, subst}
 use mathlib.Core.Bool.{false}
 use mathlib.Core.Logic.{_⊎_, inl, inr}
-use mathlib.Core.List.{List, [], _∷_, _++_, append-assoc, map}
-use native.Mathlib.Nat.{mod-lt}
+use mathlib.Core.List.{List, [], _∷_, _++_, append-assoc, append-nil, map}
+use native.Mathlib.Nat.{le-refl, mod-lt}
 use native.Mathlib.Omega.{arith}
 use lib.ListN.{length, length-append, length-map, length-replicate, take}
 use lib.Seq.{take-at}
@@ -18,31 +18,29 @@ use Rattle.rows.specs.Stages.{limit}
 use Rattle.rows.proofs.Every.{every-map, every-both, every-append, every-front, every-back}
 use Rattle.rows.proofs.KeptRows.{kept-plain, kept-every}
 use Rattle.rows.proofs.TapesJoined.{formed-append, kept-append}
-use Rattle.shorthand.specs.declared.Kind.{Kind}
 use Rattle.shorthand.specs.declared.Item.{Item}
 use Rattle.shorthand.specs.declared.Format.{Format}
-use Rattle.shorthand.specs.Facts.{Widths, Facts}
-use Rattle.shorthand.specs.Lawful.{Lawful}
-use Rattle.shorthand.specs.Spell.{spell}
+use Rattle.shorthand.specs.Layout.{Way, by-letter, by-both, by-tab, wayOf}
+use Rattle.shorthand.specs.Facts.{Facts}
+use Rattle.profile.specs.Relation.{Settled}
 use Rattle.shorthand.proofs.Tests.{both}
-use Rattle.shorthand.proofs.Accepted.{one-format}
-use Rattle.shorthand.proofs.Fairness.{lawful-facts}
+use Rattle.profile.proofs.Settling.{one-format, settled-facts}
 use Rattle.reading.specs.declared.Block.{Block}
-use Rattle.reading.specs.Relation.{digits, zeros, Data, speed, word, End, lf, cr-lf, Blocks, none, more, Program, program, chars, TapeOf}
+use Rattle.reading.specs.Relation.{digits, zeros, address, End, lf, cr-lf, Blocks, none, more, Program, program, chars, TapeOf}
 use Rattle.reading.specs.Answers.{readUnder}
 use Rattle.reading.proofs.Outcomes.{chars-append}
-use Rattle.words.specs.declared.Value.{Value}
 use Rattle.reading.proofs.DigitRows.{digits-length, digits-digit}
 use Rattle.punching.specs.Rows.{rowOf}
 use Rattle.reading.proofs.BareRows.{bare, Bare, digits-bare, block-bare}
 use Rattle.punching.proofs.PunchedRows.{punched-even, punched-known, punched-formed}
 use Rattle.punching.proofs.PunchedTapes.{chars-punched}
-use Rattle.places.specs.Begins.{Digit, Begins}
-use Rattle.places.specs.Faults.{EndDue, Misfit, Cut, SpeedDue, Refusal, at-row, at-cr, at-address, at-length}
-use Rattle.places.specs.Tapes.{LongTape, Opens, Shuts, instead, TapePlace, first-wrong, cr-alone, unsaid, ended}
-use Rattle.places.proofs.DigitLists.{zeros-digit}
-use Rattle.places.proofs.SpeedDigits.{Means, zeros-mean}
-use Rattle.places.proofs.Addressed.{item-widths}
+use Rattle.places.specs.Begins.{Begins, Due}
+use Rattle.places.specs.Faults.{lastOf, EndDue, Misfit, Cut, Spoilt, Refusal, at-row, at-cr, at-word, at-length}
+use Rattle.places.specs.Tapes.{LongTape, Opens, Shuts, instead, Address, TapePlace, first-wrong, cr-alone, unsaid, ended}
+use Rattle.places.proofs.DigitLists.{zeros-digit, last-behind}
+use Rattle.places.proofs.Dues.{due-item, item-widths, item-letter}
+use Rattle.places.proofs.Ahead.{address-begins, zeros-begin}
+use Rattle.places.proofs.Called.{called}
 use Rattle.places.proofs.RefusedTapes.{tape-refused}
 use Rattle.rows.proofs.TapeParts.{CutAt, cut-at}
 use Rattle.places.proofs.CutShort.{cut-none}
@@ -60,6 +58,10 @@ blocks-bare facts (more {r = r} {s = s} b h) = every-append _ r s (block-bare fa
 program-bare : {f : Format} {bs : List Block} {x : List ℕ} → Facts f → Program f bs x → Bare x
 program-bare facts (program {e = e} {r = r} h k) = (tt, every-append _ e r (end-bare h) (blocks-bare facts k))
 
+-- and so are rows behind others
+begins-bare : {f : Format} → Facts f → (x u : List ℕ) → Begins f (x ++ u) → Bare u
+begins-bare facts x u (bs, o, p) = every-back _ x u (every-front _ (x ++ u) o (program-bare facts p))
+
 -- a kept row of a tape that passes is one that the punch could write
 small : (t : List ℕ) → Every (λ b. T (ltb (character b) 128)) t
 small [] = tt
@@ -76,9 +78,9 @@ kept-bare {t} p =
 -- ---- beginnings of a tape
 
 -- within the limit a long tape is one
-pub within-limit : {e : ℕ} {s : List ℕ} {bs : List Block} {t : List ℕ} → LongTape e s bs t → length t ≤ limit → TapeOf e s bs t
+pub within-limit : {e : ℕ} {s p : List ℕ} {bs : List Block} {t : List ℕ} → LongTape e s p bs t → length t ≤ limit → TapeOf e s p bs t
 within-limit h l =
-    record { format = h .format; lawful = h .lawful; spelt = h .spelt; passes = record { short = l; even = h .even; known = h .known; formed = h .formed }; stands = h .stands }
+    record { format = h .format; settled = h .settled; passes = record { short = l; even = h .even; known = h .known; formed = h .formed }; stands = h .stands }
 
 -- what the first three stages ask of rows, but for their number
 record Clean (u : List ℕ) : Type 0 where
@@ -98,22 +100,22 @@ clean-more {u} c cs bare =
       formed = formed-append (c .formed) (punched-formed cs bare);
     }
 
-module _ {e : ℕ} {s : List ℕ} {f : Format} (lawful : Lawful e f) (spelt : s ≡ spell f) where
-  opens : {u : List ℕ} → Clean u → Begins f (chars (kept u)) → Opens e s u
+module _ {e : ℕ} {s p : List ℕ} {f : Format} (settled : Settled e s p f) where
+  opens : {u : List ℕ} → Clean u → Begins f (chars (kept u)) → Opens e s p u
   opens {u} c (bs, o, q) =
-      let bare = every-back _ (chars (kept u)) o (program-bare (lawful-facts lawful) q) in
+      let bare = every-back _ (chars (kept u)) o (program-bare (settled-facts settled) q) in
       let all = clean-more c o bare in
-      (map rowOf o, bs, record { format = f; lawful = lawful; spelt = spelt; even = all .even; known = all .known; formed = all .formed; stands = rw (chars-punched (c .formed) o bare) q })
+      (map rowOf o, bs, record { format = f; settled = settled; even = all .even; known = all .known; formed = all .formed; stands = rw (chars-punched (c .formed) o bare) q })
 
-  shuts : (u : List ℕ) → WellFormed u → (Begins f (chars (kept u)) → ⊥) → Shuts e s u
+  shuts : (u : List ℕ) → WellFormed u → (Begins f (chars (kept u)) → ⊥) → Shuts e s p u
   shuts u w nay m bs h =
-      let same : h .format ≡ f = one-format (h .lawful) lawful (sym (h .spelt) ∙ spelt) in
+      let same : h .format ≡ f = one-format (h .settled) settled in
       let rows : chars (kept (u ++ m)) ≡ chars (kept u) ++ chars (keptFrom false (0 + length u) m) = ap chars (kept-append w 0 m) ∙ chars-append (kept u) _ in
       nay (bs, chars (keptFrom false (0 + length u) m), subst (λ x. Program f bs x) rows (subst (λ g. Program g bs (chars (kept (u ++ m)))) same (h .stands)))
 
 -- ---- cut at a kept row
 
-module _ {e : ℕ} {s t : List ℕ} {f : Format} (lawful : Lawful e f) (spelt : s ≡ spell f) (passes : Passes t) (b a : List KeptRow) (r : KeptRow) (split : kept t ≡ b ++ (r ∷ a)) where
+module _ {e : ℕ} {s p t : List ℕ} {f : Format} (settled : Settled e s p f) (passes : Passes t) (b a : List KeptRow) (r : KeptRow) (split : kept t ≡ b ++ (r ∷ a)) where
   cut : CutAt t 0 b r
   cut = cut-at a r (passes .formed) 0 b split
 
@@ -139,31 +141,33 @@ module _ {e : ℕ} {s t : List ℕ} {f : Format} (lawful : Lawful e f) (spelt : 
         formed = cut .formed;
       }
 
-  opens-before : Begins f (chars b) → Opens e s (take (r .place) t)
-  opens-before h = subst (Opens e s) (sym before) (opens lawful spelt (passes-clean passed) (subst (λ l. Begins f (chars l)) (sym (cut .rows)) h))
+  opens-before : Begins f (chars b) → Opens e s p (take (r .place) t)
+  opens-before h = subst (Opens e s p) (sym before) (opens settled (passes-clean passed) (subst (λ l. Begins f (chars l)) (sym (cut .rows)) h))
 
-  shuts-before : (Begins f (chars b) → ⊥) → Shuts e s (take (r .place) t)
-  shuts-before nay = subst (Shuts e s) (sym before) (shuts lawful spelt (cut .u) (cut .formed) (λ h. nay (subst (λ l. Begins f (chars l)) (cut .rows) h)))
+  shuts-before : (Begins f (chars b) → ⊥) → Shuts e s p (take (r .place) t)
+  shuts-before nay = subst (Shuts e s p) (sym before) (shuts settled (cut .u) (cut .formed) (λ h. nay (subst (λ l. Begins f (chars l)) (cut .rows) h)))
 
-  shuts-with : (Begins f (chars b ++ (r .char ∷ [])) → ⊥) → Shuts e s (take (suc (r .place)) t)
+  shuts-with : (Begins f (chars b ++ (r .char ∷ [])) → ⊥) → Shuts e s p (take (suc (r .place)) t)
   shuts-with nay =
       let u = cut .u ++ (cut .c ∷ []) in
       let rows : kept u ≡ b ++ (r ∷ []) = kept-append (cut .formed) 0 (cut .c ∷ []) ∙ ap (λ l. l ++ keptFrom false (0 + length (cut .u)) (cut .c ∷ [])) (cut .rows) ∙ ap (λ l. b ++ l) (cut .kept) in
-      subst (Shuts e s) (sym up-to)
-      (shuts lawful spelt u (formed-append (cut .formed) (row (cut .outside) end)) (λ h. nay (subst (Begins f) (ap chars rows ∙ chars-append b (r ∷ [])) h)))
+      subst (Shuts e s p) (sym up-to)
+      (shuts settled u (formed-append (cut .formed) (row (cut .outside) end)) (λ h. nay (subst (Begins f) (ap chars rows ∙ chars-append b (r ∷ [])) h)))
 
   -- other characters punched from the cut on
-  module _ (cs : List ℕ) (bare : Bare cs) where
-    punched-rows : chars (kept (cut .u ++ map rowOf cs)) ≡ chars b ++ cs
-    punched-rows = chars-punched (cut .formed) cs bare ∙ ap (λ l. chars l ++ cs) (cut .rows)
+  module _ (cs : List ℕ) where
+    punched-rows : Bare cs → chars (kept (cut .u ++ map rowOf cs)) ≡ chars b ++ cs
+    punched-rows bare = chars-punched (cut .formed) cs bare ∙ ap (λ l. chars l ++ cs) (cut .rows)
 
-    opens-instead : Begins f (chars b ++ cs) → Opens e s (instead t r cs)
-    opens-instead h = subst (λ u. Opens e s (u ++ map rowOf cs)) (sym before) (opens lawful spelt (clean-more (passes-clean passed) cs bare) (subst (Begins f) (sym punched-rows) h))
+    opens-instead : Begins f (chars b ++ cs) → Opens e s p (instead t r cs)
+    opens-instead h =
+        let bare = begins-bare (settled-facts settled) (chars b) cs h in
+        subst (λ u. Opens e s p (u ++ map rowOf cs)) (sym before) (opens settled (clean-more (passes-clean passed) cs bare) (subst (Begins f) (sym (punched-rows bare)) h))
 
-    shuts-instead : (Begins f (chars b ++ cs) → ⊥) → Shuts e s (instead t r cs)
-    shuts-instead nay =
-        subst (λ u. Shuts e s (u ++ map rowOf cs)) (sym before)
-        (shuts lawful spelt (cut .u ++ map rowOf cs) (clean-more (passes-clean passed) cs bare .formed) (λ h. nay (subst (Begins f) punched-rows h)))
+    shuts-instead : Bare cs → (Begins f (chars b ++ cs) → ⊥) → Shuts e s p (instead t r cs)
+    shuts-instead bare nay =
+        subst (λ u. Shuts e s p (u ++ map rowOf cs)) (sym before)
+        (shuts settled (cut .u ++ map rowOf cs) (clean-more (passes-clean passed) cs bare .formed) (λ h. nay (subst (Begins f) (punched-rows bare) h)))
 
 -- ---- numbers
 
@@ -173,8 +177,8 @@ misfit-range (Misfit.end EndDue.of-head a b c) = (lit≤ tt, lit≤ tt)
 misfit-range (Misfit.end (EndDue.of-block h) a b c) = (lit≤ tt, lit≤ tt)
 misfit-range (Misfit.start k p h) = (lit≤ tt, lit≤ tt)
 misfit-range (Misfit.number k l p a h) = (lit≤ tt, lit≤ tt)
-misfit-range (Misfit.figures it x m d g a h b) = (lit≤ tt, lit≤ tt)
-misfit-range (Misfit.sign it x m d h) = (lit≤ tt, lit≤ tt)
+misfit-range (Misfit.figures it x d g a h b) = (lit≤ tt, lit≤ tt)
+misfit-range (Misfit.sign it x d h) = (lit≤ tt, lit≤ tt)
 
 due-number : {f : Format} {n : ℕ} {x : List ℕ} → EndDue f n x → (n ≡ 8) ⊎ (n ≡ 10)
 due-number EndDue.of-head = inl refl
@@ -184,56 +188,93 @@ cut-number : {f : Format} {n : ℕ} {x : List ℕ} → Cut f n x → (n ≡ 8) �
 cut-number (Cut.in-head o h q some) = inl refl
 cut-number (Cut.in-block v p some nay) = inr refl
 
--- digits that mean a speed could stand where a speed is due
-said-begins : {f : Format} {it : Item} {k : ℕ} (low : 3 ≤ k) (high : k ≤ 5) {x : List ℕ} → SpeedDue f it k x → (ds : List ℕ) → Means k low high ds → Begins f (x ++ (it .letter ∷ ds))
-said-begins {f} {it} {k} low high {x} due ds (c, v, e, is) =
-    let d : Data (it .kind) (Value.Speed v) (digits k c) = subst (λ y. Data y (Value.Speed v) (digits k c)) (sym (due .speed)) (speed c e) in
-    let p = due .due _ _ (word d) (10 ∷ []) lf in
-    (p .0 ++ (p .1 ∷ []), 10 ∷ [], subst (λ y. Program f (p .0 ++ (p .1 ∷ [])) ((x ++ (it .letter ∷ y)) ++ (10 ∷ []))) (sym is) (p .2))
+-- ---- a word's rows
+
+-- the rows before an address, and from it on the word's
+record WordRows (b ds : List KeptRow) (x m : List ℕ) : Type 0 where
+  before : List KeptRow
+  first : KeptRow
+  others : List KeptRow
+  split : b ++ ds ≡ before ++ (first ∷ others)
+  of-before : chars before ≡ x
+  are : chars (first ∷ others) ≡ m ++ chars ds
+
+word-rows : (b ds : List KeptRow) (x m : List ℕ) → 0 < length ds → chars b ≡ x ++ m → WordRows b ds x m
+word-rows [] [] [] m some e = absurd (omega arith)
+word-rows [] (d ∷ ds) [] m some e = record { before = []; first = d; others = ds; split = refl; of-before = refl; are = rw (← e) }
+word-rows (r ∷ b) ds [] m some e = record { before = []; first = r; others = b ++ ds; split = refl; of-before = refl; are = rw (chars-append b ds, ← e) }
+word-rows [] ds (c ∷ x) m some e = let z = ap length e in absurd (omega arith)
+word-rows (r ∷ b) ds (c ∷ x) m some e = let k : chars b ≡ x ++ m = cc in longer (word-rows b ds x m some k) (cc)
+  where
+    longer : WordRows b ds x m → r .char ≡ c → WordRows (r ∷ b) ds (c ∷ x) m
+    longer p a = record { before = r ∷ p .before; first = p .first; others = p .others; split = ap (λ l. r ∷ l) (p .split); of-before = rw (a, p .of-before); are = p .are }
+
+spoilt-some : (ds : List KeptRow) → Spoilt (chars ds) → 0 < length ds
+spoilt-some ds s = let n = ap length (s .second) in omega (arith, length-map ds (λ r. r .char))
 
 -- ---- the theorem
 
-module _ {e : ℕ} {s t : List ℕ} {f : Format} (lawful : Lawful e f) (spelt : s ≡ spell f) (passes : Passes t) where
-  -- a program that the tape stands as under the same edition and shorthand stands so under this Format
-  same-format : (bs : List Block) → LongTape e s bs t → Program f bs (chars (kept t))
-  same-format bs h = subst (λ g. Program g bs (chars (kept t))) (one-format (h .lawful) lawful (sym (h .spelt) ∙ spelt)) (h .stands)
+module _ {e : ℕ} {s p t : List ℕ} {f : Format} (settled : Settled e s p f) (passes : Passes t) where
+  facts : Facts f
+  facts = settled-facts settled
 
-  placed : {n p : ℕ} → Refusal f (length t) (kept t) n p → TapePlace e s t n p
+  -- the address of an item that is due
+  abbrev own : Item → List ℕ
+  own it = address (wayOf f) it
+
+  lone : {it : Item} {x : List ℕ} → Due f it x → Address (lastOf x) (own it)
+  lone {it} {x} due = go (wayOf f) refl
+    where
+      go : (y : Way) → wayOf f ≡ y → Address (lastOf x) (address y it)
+      go by-letter e = item-letter (facts .fair) (due-item due)
+      go by-both e = item-letter (facts .fair) (due-item due)
+      go by-tab e =
+          let m = called facts due in
+          ap lastOf (sym (append-nil x) ∙ ap (λ y. x ++ address y it) (sym e) ∙ m .rows) ∙ last-behind (m .before) (m .mark ∷ []) (lit< tt) ∙ m .tab e
+
+  own-bare : {it : Item} {x : List ℕ} → Due f it x → (u : List ℕ) → Bare u → Bare (own it ++ u)
+  own-bare {it} {x} due u all = every-append _ (own it) u (begins-bare facts x (own it) (address-begins it (item-widths (facts .fair) (due-item due)) x due)) all
+
+  -- a program that the tape stands as under the same edition, shorthand and profile stands so under this Format
+  same-format : (bs : List Block) → LongTape e s p bs t → Program f bs (chars (kept t))
+  same-format bs h = subst (λ g. Program g bs (chars (kept t))) (one-format (h .settled) settled) (h .stands)
+
+  placed : {n k : ℕ} → Refusal f (length t) (kept t) n k → TapePlace e s p t n k
   placed (at-row b a r q m h nay) =
-      first-wrong (misfit-range m .0) (misfit-range m .1) (in-tape lawful spelt passes b a r q) (opens-before lawful spelt passes b a r q h) (shuts-with lawful spelt passes b a r q nay)
+      first-wrong (misfit-range m .0) (misfit-range m .1) (in-tape settled passes b a r q) (opens-before settled passes b a r q h) (shuts-with settled passes b a r q nay)
   placed (at-cr b a cr r q due is n h nay) =
       let q₂ : kept t ≡ b ++ (cr ∷ []) ++ (r ∷ a) = q ∙ sym (append-assoc b (cr ∷ []) (r ∷ a)) in
       let rows : chars (b ++ (cr ∷ [])) ≡ chars b ++ (13 ∷ []) = chars-append b (cr ∷ []) ∙ rw is in
       let more-rows : chars (b ++ (cr ∷ [])) ++ (r .char ∷ []) ≡ chars b ++ (13 ∷ (r .char ∷ [])) = ap (λ l. l ++ (r .char ∷ [])) rows ∙ append-assoc (chars b) (13 ∷ []) (r .char ∷ []) in
       cr-alone b a cr r (due-number due) q is n
-      (opens-before lawful spelt passes (b ++ (cr ∷ [])) a r q₂ (subst (Begins f) (sym rows) h))
-      (shuts-with lawful spelt passes (b ++ (cr ∷ [])) a r q₂ (λ k. nay (subst (Begins f) more-rows k)))
-  placed (at-address {k} {it} c b w a r q due l v small z apart h nay) =
-      let speeds : Widths (Kind.Speed k) = subst Widths (due .speed) (item-widths (lawful-facts lawful .fair) (due .item)) in
-      let digit : Every Digit (chars w) = subst (Every Digit) (sym v) (digits-digit k c small) in
-      let many : length (zeros k) ≡ length w = omega (arith, length-replicate {A = ℕ} k 48, length-map w (λ d. d .char), ap length v, digits-length k c) in
-      let plain = every-back (λ x. T (bare (x .char))) b (r ∷ (w ++ a)) (subst (Every (λ x. T (bare (x .char)))) q (kept-bare passes)) in
-      let zero = said-begins (speeds .0) (speeds .1) due (zeros k) (zeros-mean k (speeds .0) (speeds .1)) in
-      unsaid b w a r q digit apart
-      (zeros k, zeros-digit k, many, opens-instead lawful spelt passes b (w ++ a) r q (r .char ∷ zeros k) (plain .0, digits-bare (zeros k) (zeros-digit k)) (subst (λ x. Begins f (chars b ++ (x ∷ zeros k))) (sym l) zero))
-      (shuts-instead lawful spelt passes b (w ++ a) r q (r .char ∷ chars w) (plain .0, digits-bare (chars w) digit) nay)
-  placed (at-length c h) = ended (cut-number c) (opens lawful spelt (passes-clean passes) h) (λ bs k. cut-none c (same-format bs k))
-  placed (Refusal.past-saving {it = it} b ds a l r q due is s all m lost o nay) =
-      let q₂ : kept t ≡ b ++ (l ∷ ds) ++ (r ∷ a) = q ∙ sym (append-assoc b (l ∷ ds) (r ∷ a)) in
-      let rows : chars (b ++ (l ∷ ds)) ≡ chars b ++ (it .letter ∷ chars ds) = chars-append b (l ∷ ds) ∙ ap (λ c. chars b ++ (c ∷ chars ds)) is in
-      let plain = subst (Every (λ x. T (bare (x .char)))) q (kept-bare passes) in
-      let behind-b = every-back (λ x. T (bare (x .char))) b (l ∷ (ds ++ (r ∷ a))) plain in
-      let r-bare = every-back (λ x. T (bare (x .char))) ds (r ∷ a) (behind-b .1) .0 in
-      TapePlace.past-saving b ds a l r q s all (shuts-before lawful spelt passes (b ++ (l ∷ ds)) a r q₂ (λ k. lost (subst (Begins f) rows k)))
-      (o .0, o .1, o .2, opens-instead lawful spelt passes b (ds ++ (r ∷ a)) l q (l .char ∷ o .0) (behind-b .0, digits-bare (o .0) (o .1)) (subst (λ c. Begins f (chars b ++ (c ∷ o .0))) (sym is) (o .3)))
-      (λ d every many. shuts-instead lawful spelt passes b (ds ++ (r ∷ a)) l q (l .char ∷ (d ++ (r .char ∷ []))) (behind-b .0, every-append _ d (r .char ∷ []) (digits-bare d every) (r-bare, tt))
-      (λ h. nay d every many (subst (λ c. Begins f (chars b ++ (c ∷ (d ++ (r .char ∷ []))))) is h)))
-  placed (Refusal.cut-past-saving {it = it} b ds l q due is s all few c lost o) =
-      let plain = subst (Every (λ x. T (bare (x .char)))) q (kept-bare passes) in
-      let behind-b = every-back (λ x. T (bare (x .char))) b (l ∷ ds) plain in
-      TapePlace.cut-past-saving b ds l q s all (shuts lawful spelt t (passes .formed) lost)
-      (o .0, o .1, o .2, opens-instead lawful spelt passes b ds l q (l .char ∷ o .0) (behind-b .0, digits-bare (o .0) (o .1)) (subst (λ c. Begins f (chars b ++ (c ∷ o .0))) (sym is) (o .3)))
+      (opens-before settled passes (b ++ (cr ∷ [])) a r q₂ (subst (Begins f) (sym rows) h))
+      (shuts-with settled passes (b ++ (cr ∷ [])) a r q₂ (λ k. nay (subst (Begins f) more-rows k)))
+  placed (at-word {k} {it} c b w a r q due v small z apart h nay) =
+      let zero = zeros-begin it (item-widths (facts .fair) (due-item (due .due))) (chars b) (due .due) (due .speed) k (le-refl k) in
+      let digit = digits-digit k c small in
+      unsaid b w a r (own it) (digits k c) q v (lone (due .due)) digit apart
+      (zeros k, zeros-digit k, length-replicate {A = ℕ} k 48 ∙ sym (digits-length k c), opens-instead settled passes b (w ++ a) r q (own it ++ zeros k) (subst (Begins f) (append-assoc (chars b) (own it) (zeros k)) zero))
+      (shuts-instead settled passes b (w ++ a) r q (own it ++ digits k c) (own-bare (due .due) (digits k c) (digits-bare (digits k c) digit)) (λ g. nay (rw v g)))
+  placed (at-length c h) = ended (cut-number c) (opens settled (passes-clean passes) h) (λ bs k. cut-none c (same-format bs k))
+  placed (Refusal.past-saving {it = it} b ds a r x q due is s all m lost o nay) =
+      let p = word-rows b ds x (own it) (spoilt-some ds s) is in
+      let whole : kept t ≡ b ++ ds ++ (r ∷ a) = q ∙ sym (append-assoc b ds (r ∷ a)) in
+      let rows : kept t ≡ p .before ++ (p .first ∷ (p .others ++ (r ∷ a))) = whole ∙ ap (λ l. l ++ (r ∷ a)) (p .split) ∙ append-assoc (p .before) (p .first ∷ p .others) (r ∷ a) in
+      let r-bare = every-back (λ y. T (bare (y .char))) (b ++ ds) (r ∷ a) (subst (Every (λ y. T (bare (y .char)))) whole (kept-bare passes)) .0 in
+      let to : (u : List ℕ) → chars b ++ u ≡ chars (p .before) ++ (own it ++ u) = λ u. rw (is, p .of-before) (append-assoc x (own it) u) in
+      TapePlace.past-saving (p .before) (p .others) a (p .first) r (own it) (chars ds) rows (p .are) (subst (λ z. Address (lastOf z) (own it)) (sym (p .of-before)) (lone (due .due))) s all
+      (shuts-before settled passes (b ++ ds) a r whole (λ k. lost (subst (Begins f) (chars-append b ds) k)))
+      (o .0, o .1, o .2 ∙ sym (length-map ds (λ y. y .char)), opens-instead settled passes (p .before) (p .others ++ (r ∷ a)) (p .first) rows (own it ++ o .0) (subst (Begins f) (to (o .0)) (o .3)))
+      (λ d every many. let u = d ++ (r .char ∷ []) in
+      shuts-instead settled passes (p .before) (p .others ++ (r ∷ a)) (p .first) rows (own it ++ u) (own-bare (due .due) u (every-append _ d (r .char ∷ []) (digits-bare d every) (r-bare, tt)))
+      (λ h. nay d every (many ∙ length-map ds (λ y. y .char)) (subst (Begins f) (sym (to u)) h)))
+  placed (Refusal.cut-past-saving {it = it} b ds x q due is s all few c lost o) =
+      let p = word-rows b ds x (own it) (spoilt-some ds s) is in
+      let rows : kept t ≡ p .before ++ (p .first ∷ p .others) = q ∙ p .split in
+      let to : chars b ++ o .0 ≡ chars (p .before) ++ (own it ++ o .0) = rw (is, p .of-before) (append-assoc x (own it) (o .0)) in
+      TapePlace.cut-past-saving (p .before) (p .others) (p .first) (own it) (chars ds) rows (p .are) (subst (λ z. Address (lastOf z) (own it)) (sym (p .of-before)) (lone (due .due))) s all (shuts settled t (passes .formed) lost)
+      (o .0, o .1, o .2 ∙ sym (length-map ds (λ y. y .char)), opens-instead settled passes (p .before) (p .others) (p .first) rows (own it ++ o .0) (subst (Begins f) to (o .3)))
 
 -- a tape that reading refuses by 8 to 14 goes wrong where it says
-pub tape-placed : (e : ℕ) (s t : List ℕ) (n p : ℕ) → 8 ≤ n → readUnder e s t ≡ refused n p → TapePlace e s t n p
-tape-placed e s t n p late q = let h = tape-refused e s t n p late q in placed (h .lawful) (h .spelt) (h .passes) (h .says)
+pub tape-placed : (e : ℕ) (s p t : List ℕ) (n k : ℕ) → 8 ≤ n → n ≤ 14 → readUnder e s p t ≡ refused n k → TapePlace e s p t n k
+tape-placed e s p t n k late early q = let h = tape-refused e s p t n k late early q in placed (h .settled) (h .passes) (h .says)

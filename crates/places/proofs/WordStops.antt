@@ -1,12 +1,13 @@
--- How an item's word goes from its address on, 13 among its stops.
-use Prim.Native.Nat.{ℕ, _^_, _≤_, _<_}
+-- How an item's word goes from its first row on, 13 among its stops.
+use Prim.Native.Nat.{ℕ, _^_, _<_}
 use mathlib.Core.Path.{_≡_, refl, sym, ap, _∙_, subst}
-use mathlib.Core.Logic.{inl}
-use mathlib.Core.Bool.{Bool, true, false, cond}
-use mathlib.Core.List.{List, [], _∷_, _++_}
+use mathlib.Core.Logic.{inl, inr}
+use mathlib.Core.Bool.{Bool, true, false, _||_, cond, false≢true}
+use mathlib.Core.List.{List, [], _∷_, _++_, append-assoc}
 use native.Mathlib.Omega.{arith}
-use lib.ListN.{length, length-map}
+use lib.ListN.{length, length-append, length-map}
 use lib.Dec.{T}
+use borrow.Author.Tests.{eqb-true}
 use Rattle.rows.specs.Answer.{Answer, taken, refused, _>>=_}
 use Rattle.rows.specs.Kept.{KeptRow}
 use Rattle.rows.specs.Passes.{Every}
@@ -15,22 +16,26 @@ use Rattle.shorthand.specs.declared.Missing.the-variants.{Nothing}
 use Rattle.shorthand.specs.declared.Kind.{Kind}
 use Rattle.shorthand.specs.declared.Kind.the-variants.{Plain}
 use Rattle.shorthand.specs.declared.Item.{Item}
-use Rattle.shorthand.specs.Layout.{width, missingOf, signOf}
+use Rattle.shorthand.specs.Layout.{Way, by-letter, by-both, by-tab, width, missingOf, signOf}
 use Rattle.shorthand.specs.Facts.{Widths}
 use Rattle.words.specs.declared.Value.{Value}
 use Rattle.words.specs.declared.Word.{Word}
-use Rattle.reading.specs.Relation.{digits, Data, number, speed, dimension, Worded, word, chars}
+use Rattle.reading.specs.Relation.{digits, Data, number, speed, dimension, address, chars}
 use Rattle.words.specs.declared.Wanted.{Wanted}
-use Rattle.words.specs.Figures.{Behind, taking, wrong, digitNext, figures, signed}
-use Rattle.words.specs.Data.{spoken, meant, dataAt, wordAt}
-use Rattle.reading.proofs.ReadData.{barred-none}
+use Rattle.words.specs.Figures.{Behind, taking, wrong, fronts, behind, frontPlace, isDigit, isSign, isFigure, figures, signed}
+use Rattle.words.specs.Data.{meant, dataAt, wordAt}
+use Rattle.parts.specs.Items.{begins, pastAddress}
+use Rattle.reading.proofs.Outcomes.{chars-append}
+use Rattle.reading.proofs.ReadData.{barred-none, sign-is}
 use Rattle.reading.proofs.DigitRows.{worth, digits-length, digits-digit, digits-worth}
 use Rattle.reading.proofs.RowsAhead.{digit-no-sign}
 use Rattle.places.specs.Begins.{Digit}
-use Rattle.places.proofs.Steady.{Refuses, refuses-bind, at-row, held-after, Goes, took, held}
-use Rattle.places.proofs.DigitLists.{coded, some-punched}
+use Rattle.places.specs.Faults.{Enters}
+use Rattle.places.proofs.Steady.{Next, next-any, Refuses, refuses-bind, held-after, Goes, took, held, goes-alone}
+use Rattle.places.proofs.DigitLists.{digit-is, coded, some-punched, some-width, fewest-some}
+use Rattle.places.proofs.Dues.{Some, stands}
 use Rattle.places.proofs.SpeedDigits.{speed-is}
-use Rattle.places.proofs.FigureStops.{Figured, suits, figures-are}
+use Rattle.places.proofs.FigureStops.{Figured, Firm, figured-firm, suits, figures-are}
 use Rattle.places.proofs.SignStops.{Given, DataStop, given, given-goes}
 
 -- ---- the parser as one step behind the sign and the figures
@@ -47,16 +52,16 @@ regroup (taken s) g h j = inner (g (s .rest))
 regroup (refused n p) g h j = refl
 
 -- what is made of a sign and a number
-abbrev verdict : ℕ → Item → Bool → ℕ → List KeptRow → Answer (Behind Word)
-verdict a it neg m l = (meant a (it .kind) neg m >>= λ x. taking x l) >>= λ x. taking (record { letter = it .letter; value = x .value }) (x .rest)
+abbrev verdict : ℕ → Item → Behind (Bool × ℕ) → Answer (Behind Word)
+verdict a it g = (meant a (it .kind) (g .value .0) (g .value .1) >>= λ x. taking x (g .rest)) >>= λ x. taking (record { letter = it .letter; value = x .value }) (x .rest)
 
-word-is : (len : ℕ) (it : Item) (r : KeptRow) (l : List KeptRow) → wordAt len it (r ∷ l) ≡ given len (it .kind) l >>= λ y. verdict (r .place) it (y .value .0) (y .value .1) (y .rest)
+word-is : (len : ℕ) (it : Item) (a : ℕ) (l : List KeptRow) → wordAt len it a l ≡ given len (it .kind) l >>= verdict a it
 unfolding dataAt
-word-is len it r l =
-    regroup (signed len (signOf (it .kind)) l) (figures len Wanted.Digits (missingOf (it .kind)) (width (it .kind))) (λ neg m rest. meant (r .place) (it .kind) neg m >>= λ x. taking x rest)
+word-is len it a l =
+    regroup (signed len (signOf (it .kind)) l) (figures len Wanted.Digits (missingOf (it .kind)) (width (it .kind))) (λ neg m rest. meant a (it .kind) neg m >>= λ x. taking x rest)
     (λ x. taking (record { letter = it .letter; value = x .value }) (x .rest))
 
--- ---- what was given stands as a word
+-- ---- what was given stands as a word's data
 
 full-digits : (j m : ℕ) (u : List ℕ) {rest : List KeptRow} → Figured Nothing j m u rest → (m < 10 ^ j) × (u ≡ digits j m)
 full-digits j m u h =
@@ -64,47 +69,80 @@ full-digits j m u h =
     let e : m ≡ c .0 = h .value refl ∙ ap (worth 0) (c .2) ∙ digits-worth j (c .0) 0 (c .1) ∙ omega arith in
     (subst (λ x. x < 10 ^ j) (sym e) (c .1), c .2 ∙ ap (digits j) (sym e))
 
--- some word of the item
-abbrev pub Some : Item → List ℕ → Type 0
-Some it u = (w : Word) × Worded it w u
+-- the rows u are data, and mean something; or 13, wherever the word begins
+data Judged (k : Kind) (neg : Bool) (m : ℕ) (u : List ℕ) : Type 0 where
+  means : {x : Value} → ((a : ℕ) → meant a k neg m ≡ taken x) → (v : Value) × Data k v u → Judged k neg m u
+  second : {j : ℕ} → ((a : ℕ) → meant a k neg m ≡ refused 13 a) → k ≡ Kind.Speed j → m < 10 ^ j → u ≡ digits j m → T (secondZero j m) → Judged k neg m u
 
-pub stands : (it : Item) {x : Value} {d : List ℕ} → Data (it .kind) x d → Some it (it .letter ∷ d)
-stands it {x} q = (record { letter = it .letter; value = x }, word q)
-
--- what the number m of the rows u means, and the word that they stand as; or 13
-data Judged (a m : ℕ) (u : List ℕ) (it : Item) : Answer Value → Type 0 where
-  means : {x : Value} → Some it (it .letter ∷ u) → Judged a m u it (taken x)
-  second : {j : ℕ} → it .kind ≡ Kind.Speed j → m < 10 ^ j → u ≡ digits j m → T (secondZero j m) → Judged a m u it (refused 13 a)
-
-module _ (a : ℕ) (y : Bool × ℕ) (u : List ℕ) where
-  judged : (l : ℕ) (k : Kind) {rest : List KeptRow} → Widths k → Given k y u rest → Judged a (y .1) u (record { letter = l; kind = k }) (meant a k (y .0) (y .1))
-  judged l (Plain n) w g =
+module _ (neg : Bool) (m : ℕ) (u : List ℕ) where
+  judged : (k : Kind) {rest : List KeptRow} → Widths k → Given k (neg, m) u rest → Judged k neg m u
+  judged (Plain n) w g =
       let p = some-punched Nothing n (g .ds) (g .figured .all) (g .figured .least) (g .figured .most) in
       let e : u ≡ g .ds = g .split ∙ ap (λ s. s ++ g .ds) (barred-none (g .signs 0)) in
-      means (subst (λ d. Some (record { letter = l; kind = Plain n }) (l ∷ d)) (sym e) (stands _ (number (p .1))))
-  judged l (Kind.Speed j) w g =
+      means (λ a. refl) (rw e (_, number (p .1)))
+  judged (Kind.Speed j) w g =
       let e : u ≡ g .ds = g .split ∙ ap (λ s. s ++ g .ds) (barred-none (g .signs 0)) in
-      let f = full-digits j (y .1) (g .ds) (g .figured) in
-      go (e ∙ f .1) (f .0) (secondZero j (y .1)) refl
+      let f = full-digits j m (g .ds) (g .figured) in
+      go (e ∙ f .1) (f .0) (secondZero j m) refl
     where
-      go : u ≡ digits j (y .1) → y .1 < 10 ^ j → (b : Bool) → secondZero j (y .1) ≡ b → Judged a (y .1) u (record { letter = l; kind = Kind.Speed j }) (spoken a (speedFor j (y .1)))
-      go e f true z = rw (speed-is j (w .0) (w .1) (y .1) f, z) (second refl f e (subst T (sym z) tt))
+      go : u ≡ digits j m → m < 10 ^ j → (b : Bool) → secondZero j m ≡ b → Judged (Kind.Speed j) neg m u
+      go e f true z = second (λ a. rw (speed-is j (w .0) (w .1) m f, z)) refl f e (subst T (sym z) tt)
       go e f false z =
-          let q : speedFor j (y .1) ≡ taken (meaning j (y .1)) = speed-is j (w .0) (w .1) (y .1) f ∙ rw z in
-          rw q (means (subst (λ d. Some (record { letter = l; kind = Kind.Speed j }) (l ∷ d)) (sym e) (stands _ (speed (y .1) q))))
-  judged l (Kind.Dimension d) w g =
+          let q : speedFor j m ≡ taken (meaning j m) = speed-is j (w .0) (w .1) m f ∙ rw z in
+          means {x = Value.Speed (meaning j m)} (λ a. rw q) (rw e (_, speed m q))
+  judged (Kind.Dimension d) w g =
       let p = some-punched (missingOf (Kind.Dimension d)) (width (Kind.Dimension d)) (g .ds) (g .figured .all) (g .figured .least) (g .figured .most) in
-      means (subst (λ x. Some (record { letter = l; kind = Kind.Dimension d }) (l ∷ x)) (sym (g .split)) (stands _ (dimension (g .signs (p .0)) (p .1))))
+      means (λ a. refl) (rw (g .split) (_, dimension (g .signs (p .0)) (p .1)))
+
+-- ---- the address
+
+-- the rows with the characters x at the front, and those past them
+pub record Passed (past : List KeptRow → List KeptRow) (x : List ℕ) (rs : List KeptRow) : Type 0 where
+  pub rows : List KeptRow
+  pub split : rs ≡ rows ++ past rs
+  pub is : chars rows ≡ x
+  pub over : (l : List KeptRow) → past (rows ++ l) ≡ l
+
+pub pass-none : (rs : List KeptRow) → Passed (λ l. l) [] rs
+pass-none rs = record { rows = []; split = refl; is = refl; over = λ l. refl }
+
+pub pass-row : (c : ℕ) (rs : List KeptRow) → fronts c rs ≡ true → Passed behind (c ∷ []) rs
+pass-row c [] e = absurd (false≢true e)
+pass-row c (r ∷ rs) e = record { rows = r ∷ []; split = refl; is = rw (eqb-true (r .char) c e); over = λ l. refl }
+
+figure-is : (c : ℕ) → isFigure c ≡ true → Enters by-tab c
+figure-is c e = go (isDigit c) refl e
+  where
+    go : (b : Bool) → isDigit c ≡ b → (b || isSign c) ≡ true → Enters by-tab c
+    go true d e = inl (digit-is c d)
+    go false d e = inr (sign-is c e)
+
+-- where an item's word begins, its address is passed
+pass-address : (y : Way) (it : Item) (rs : List KeptRow) → begins y (it .letter) rs ≡ true → Passed (pastAddress y) (address y it) rs
+pass-address by-letter it rs e = pass-row (it .letter) rs e
+pass-address by-both it rs e = pass-row (it .letter) rs e
+pass-address by-tab it rs e = pass-none rs
+
+-- and what stands past it may begin the data
+enters : (y : Way) (c : ℕ) (rs : List KeptRow) → begins y c rs ≡ true → Next (Enters y) (pastAddress y rs)
+enters by-letter c rs e = next-any (λ c. tt) (behind rs)
+enters by-both c rs e = next-any (λ c. tt) (behind rs)
+enters by-tab c [] e = tt
+enters by-tab c (r ∷ rs) e = figure-is (r .char) e
 
 -- ---- the word
 
--- some word of the item, and no further digit behind it
-abbrev pub SomeWord : Item → Word → List ℕ → List KeptRow → Type 0
-SomeWord it w u rest = Some it u × (digitNext rest ≡ false)
+-- the word that begins at the front
+abbrev pub wordHere : ℕ → Way → Item → List KeptRow → Answer (Behind Word)
+wordHere len y it rs = wordAt len it (frontPlace rs) (pastAddress y rs)
 
-pub data WordStop (it : Item) : ℕ → List ℕ → List ℕ → List ℕ → Type 0 where
-  in-data : {n : ℕ} {b ds w : List ℕ} → DataStop (it .kind) n b ds w → WordStop it n (it .letter ∷ b) ds w
-  thirteen : {j : ℕ} (c : ℕ) → it .kind ≡ Kind.Speed j → c < 10 ^ j → T (secondZero j c) → WordStop it 13 [] [] (it .letter ∷ digits j c)
+-- some word of the item, and nothing behind it goes on with it
+abbrev pub SomeWord : Way → Item → Word → List ℕ → List KeptRow → Type 0
+SomeWord y it w u rest = Some y it u × ((x : List ℕ) → Firm y (x ++ u) rest)
+
+pub data WordStop (y : Way) (it : Item) : ℕ → List ℕ → List ℕ → List ℕ → Type 0 where
+  in-data : {n : ℕ} {b ds w : List ℕ} → DataStop y (it .kind) n b ds w → WordStop y it n (address y it ++ b) ds w
+  thirteen : {j : ℕ} (c : ℕ) → it .kind ≡ Kind.Speed j → c < 10 ^ j → T (secondZero j c) → WordStop y it 13 [] [] (address y it ++ digits j c)
 
 refuses-wrong : (A : Type 0) (len : ℕ) (w : Wanted) (l : List KeptRow) → Refuses (wrong {A = A} len w l)
 refuses-wrong A len w [] = tt
@@ -115,10 +153,10 @@ true-is true t = refl
 true-is false t = absurd t
 
 -- the digits of a refused code are refused, whatever stands behind them
-module _ (len j : ℕ) (some : 1 ≤ j) where
+module _ (len j : ℕ) (speeds : Widths (Kind.Speed j)) where
   given-digits : (u l : List KeptRow) → Every Digit (chars u) → length u ≡ j → given len (Kind.Speed j) (u ++ l)
       ≡ cond (suits Nothing j u l) (taking {A = Bool × ℕ} (false, worth 0 (chars u)) l) (wrong len Wanted.Digits l)
-  given-digits [] l all e = absurd (omega arith)
+  given-digits [] l all e = absurd (omega (arith, speeds .0))
   given-digits (d ∷ u) l all e =
       rw (digit-no-sign (d .char) (all .0), figures-are len Wanted.Digits Nothing j (d ∷ u) l all (omega arith) (inl e)) (go (suits Nothing j (d ∷ u) l) l)
     where
@@ -128,47 +166,61 @@ module _ (len j : ℕ) (some : 1 ≤ j) where
       go false [] = refl
       go false (r ∷ l) = refl
 
-  code-refused : j ≤ 5 → 3 ≤ j → (letter c : ℕ) (r : KeptRow) (u l : List KeptRow) → c < 10 ^ j → T (secondZero j c) → chars u ≡ digits j c
-      → Refuses (wordAt len (record { letter = letter; kind = Kind.Speed j }) (r ∷ (u ++ l)))
-  code-refused high low letter c r u l small zero are =
+  code-refused : (letter a c : ℕ) (u l : List KeptRow) → c < 10 ^ j → T (secondZero j c) → chars u ≡ digits j c → Refuses (wordAt len (record { letter = letter; kind = Kind.Speed j }) a (u ++ l))
+  code-refused letter a c u l small zero are =
       let n : length u ≡ j = sym (length-map u (λ s. s .char)) ∙ ap length are ∙ digits-length j c in
       let w : worth 0 (chars u) ≡ c = ap (worth 0) are ∙ digits-worth j c 0 small ∙ omega arith in
-      let told : speedFor j (worth 0 (chars u)) ≡ refused 13 0 = ap (speedFor j) w ∙ speed-is j low high c small ∙ rw (true-is (secondZero j c) zero) in
-      rw (word-is len (record { letter = letter; kind = Kind.Speed j }) r (u ++ l), given-digits u l (subst (Every Digit) (sym are) (digits-digit j c small)) n)
+      let told : speedFor j (worth 0 (chars u)) ≡ refused 13 0 = ap (speedFor j) w ∙ speed-is j (speeds .0) (speeds .1) c small ∙ rw (true-is (secondZero j c) zero) in
+      rw (word-is len (record { letter = letter; kind = Kind.Speed j }) a (u ++ l), given-digits u l (subst (Every Digit) (sym are) (digits-digit j c small)) n)
       (go told (suits Nothing j u l))
     where
       go : speedFor j (worth 0 (chars u)) ≡ refused 13 0 → (b : Bool)
-          → Refuses (cond b (taking {A = Bool × ℕ} (false, worth 0 (chars u)) l) (wrong len Wanted.Digits l) >>= λ y. verdict (r .place) (record { letter = letter; kind = Kind.Speed j }) (y .value .0) (y .value .1) (y .rest))
+          → Refuses (cond b (taking {A = Bool × ℕ} (false, worth 0 (chars u)) l) (wrong len Wanted.Digits l) >>= verdict a (record { letter = letter; kind = Kind.Speed j }))
       go e true = rw e tt
       go e false = refuses-bind (wrong len Wanted.Digits l) _ (refuses-wrong (Behind (Bool × ℕ)) len Wanted.Digits l)
 
-module _ (len : ℕ) (it : Item) (w : Widths (it .kind)) (r : KeptRow) (addressed : r .char ≡ it .letter) (rs : List KeptRow) where
-  word-from : {x : Answer (Behind (Bool × ℕ))} → Goes (given len (it .kind)) len (Given (it .kind)) (DataStop (it .kind)) rs x
-      → Goes (wordAt len it) len (SomeWord it) (WordStop it) (r ∷ rs) (x >>= λ y. verdict (r .place) it (y .value .0) (y .value .1) (y .rest))
+module _ (len : ℕ) (y : Way) (it : Item) (w : Widths (it .kind)) (rs : List KeptRow) (fore : Passed (pastAddress y) (address y it) rs) where
+  -- behind the address the data decide
+  data-decide : (l : List KeptRow) → wordHere len y it (fore .rows ++ l) ≡ given len (it .kind) l >>= verdict (frontPlace (fore .rows ++ l)) it
+  data-decide l = rw (fore .over l) (word-is len it (frontPlace (fore .rows ++ l)) l)
+
+  -- the address and the rows u
+  whole : (u : List KeptRow) → chars (fore .rows ++ u) ≡ address y it ++ chars u
+  whole u = chars-append (fore .rows) u ∙ ap (λ x. x ++ chars u) (fore .is)
+
+  word-from : {x : Answer (Behind (Bool × ℕ))} → Goes (given len (it .kind)) len (Given (it .kind)) (DataStop y (it .kind)) (pastAddress y rs) x
+      → Goes (wordHere len y it) len (SomeWord y it) (WordStop y it) rs (x >>= verdict (frontPlace rs) it)
   word-from (held h) =
-      held (held-after (r ∷ []) refl
-      (λ l k nay. subst Refuses (sym (word-is len it r l)) (refuses-bind (given len (it .kind) l) (λ y. verdict (r .place) it (y .value .0) (y .value .1) (y .rest)) nay))
-      (λ n b ds v q. subst (λ c. WordStop it n (c ∷ b) ds v) (sym addressed) (in-data q))
-      h)
-  word-from (took {a = y} {rest = rest} u e g t) = go refl (judged (r .place) y (chars u) (it .letter) (it .kind) w g)
+      held (held-after (fore .rows) (fore .split) (λ l k nay. rw (data-decide l) (refuses-bind (given len (it .kind) l) (verdict (frontPlace (fore .rows ++ l)) it) nay))
+      (λ n b ds v q. rw (fore .is) (in-data q)) h)
+  word-from (took {a = g} {rest = rest} u e q t) = go (judged (g .0) (g .1) (chars u) (it .kind) w q)
     where
-      go : {v : Answer Value} → meant (r .place) (it .kind) (y .0) (y .1) ≡ v → Judged (r .place) (y .1) (chars u) it v
-          → Goes (wordAt len it) len (SomeWord it) (WordStop it) (r ∷ rs) ((v >>= λ x. taking x rest) >>= λ x. taking (record { letter = it .letter; value = x .value }) (x .rest))
-      go q (means {x} s) =
-          took {a = record { letter = it .letter; value = x }} (r ∷ u) (ap (λ l. r ∷ l) e) (subst (λ c. Some it (c ∷ chars u)) (sym addressed) s, g .figured .apart) (λ l h. word-is len it r (u ++ l) ∙ rw (t l h, q))
-      go q (second {j} k small are zero) =
-          held (at-row [] [] u rest r (ap (λ l. r ∷ l) e) tt
-          (subst (λ c. WordStop it 13 [] [] c) (sym (ap (λ c. c ∷ chars u) addressed ∙ ap (λ d. it .letter ∷ d) are)) (thirteen (y .1) k small zero)) (λ n. g .figured .apart)
-          (λ es l h n. alone es l n))
-        where
-          speeds : Widths (Kind.Speed j)
-          speeds = subst Widths k w
+      split : rs ≡ fore .rows ++ u ++ rest
+      split = fore .split ∙ ap (λ l. fore .rows ++ l) e ∙ sym (append-assoc (fore .rows) u rest)
 
-          alone : (es l : List KeptRow) → length es ≡ 0 → Refuses (wordAt len it (es ++ (r ∷ (u ++ l))))
-          alone [] l n =
-              subst (λ k. Refuses (wordAt len (record { letter = it .letter; kind = k }) (r ∷ (u ++ l)))) (sym k)
-              (code-refused len j (omega (arith, speeds .0)) (speeds .1) (speeds .0) (it .letter) (y .1) r u l small zero are)
-          alone (d ∷ es) l n = absurd (omega arith)
+      over : (l : List KeptRow) → wordHere len y it (fore .rows ++ u ++ l) ≡ wordAt len it (frontPlace (fore .rows ++ u ++ l)) (u ++ l)
+      over l = ap (λ x. wordAt len it (frontPlace (fore .rows ++ u ++ l)) (pastAddress y x)) (append-assoc (fore .rows) u l) ∙ rw (fore .over (u ++ l))
 
-  pub word-goes : Goes (wordAt len it) len (SomeWord it) (WordStop it) (r ∷ rs) (wordAt len it (r ∷ rs))
-  word-goes = subst (λ x. Goes (wordAt len it) len (SomeWord it) (WordStop it) (r ∷ rs) x) (sym (word-is len it r rs)) (word-from (given-goes len (it .kind) rs))
+      firm : (x : List ℕ) → Firm y (x ++ (address y it ++ chars u)) rest
+      firm x =
+          let e : x ++ (address y it ++ q .sgn) ++ q .ds ≡ x ++ (address y it ++ chars u) = rw (q .split) (simp append-assoc) in
+          subst (λ l. Firm y l rest) e (figured-firm y (x ++ (address y it ++ q .sgn)) (q .figured) (fewest-some (missingOf (it .kind)) (width (it .kind)) (some-width (it .kind) w)))
+
+      go : Judged (it .kind) (g .0) (g .1) (chars u) → Goes (wordHere len y it) len (SomeWord y it) (WordStop y it) rs (verdict (frontPlace rs) it (record { value = g; rest = rest }))
+      go (means {x} m d) =
+          rw (m (frontPlace rs))
+          (took {a = record { letter = it .letter; value = x }} (fore .rows ++ u) split (rw (whole u) (stands y it (d .1), firm))
+          (λ l h. over l ∙ word-is len it _ (u ++ l) ∙ rw (t l h, m (frontPlace (fore .rows ++ u ++ l)))))
+      go (second {j} m k small are zero) =
+          let many : length u ≡ j = sym (length-map u (λ s. s .char)) ∙ ap length are ∙ digits-length j (g .1) in
+          let speeds : Widths (Kind.Speed j) = subst Widths k w in
+          rw (m (frontPlace rs))
+          (goes-alone 13 (fore .rows ++ u) rest (omega (arith, length-append (fore .rows) u, speeds .0)) split (rw (whole u, are) (thirteen (g .1) k small zero)) (λ n. q .figured .apart)
+          (λ l. rw (over l)
+          (subst (λ k. Refuses (wordAt len (record { letter = it .letter; kind = k }) (frontPlace (fore .rows ++ u ++ l)) (u ++ l))) (sym k)
+          (code-refused len j speeds (it .letter) (frontPlace (fore .rows ++ u ++ l)) (g .1) u l small zero are))))
+
+pub word-goes : (len : ℕ) (y : Way) (it : Item) → Widths (it .kind) → (rs : List KeptRow) → begins y (it .letter) rs ≡ true
+    → Goes (wordHere len y it) len (SomeWord y it) (WordStop y it) rs (wordHere len y it rs)
+word-goes len y it w rs e =
+    rw (word-is len it (frontPlace rs) (pastAddress y rs)) (word-from len y it w rs (pass-address y it rs e) (given-goes len y (it .kind) (pastAddress y rs) (enters y (it .letter) rs e)))

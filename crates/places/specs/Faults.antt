@@ -3,7 +3,7 @@ use Prim.Native.Nat.{ℕ, _^_, _<_}
 use mathlib.Core.Path.{_≡_}
 use mathlib.Core.Logic.{_⊎_}
 use mathlib.Core.Bool.{Bool, true, cond}
-use mathlib.Core.List.{List, [], _∷_, _++_, List·Memᴰ}
+use mathlib.Core.List.{List, [], _∷_, _++_}
 use lib.ListN.{length}
 use lib.IntN.{ℤ}
 use lib.Dec.{T}
@@ -13,11 +13,10 @@ use Rattle.speeds.specs.Meaning.{secondZero}
 use Rattle.shorthand.specs.declared.Kind.{Kind}
 use Rattle.shorthand.specs.declared.Item.{Item}
 use Rattle.shorthand.specs.declared.Format.{Format}
-use Rattle.shorthand.specs.Layout.{itemsOf, width, missingOf, fewest, Sign, barred, required, signOf}
-use Rattle.shorthand.specs.Lawful.{Lawful}
-use Rattle.shorthand.specs.Spell.{spell}
+use Rattle.shorthand.specs.Layout.{Way, by-letter, by-both, by-tab, wayOf, width, missingOf, fewest, Sign, barred, required, signOf}
+use Rattle.profile.specs.Relation.{Settled}
 use Rattle.reading.specs.declared.Block.{Block}
-use Rattle.reading.specs.Relation.{digits, Signed, End, skipRows, Program, chars}
+use Rattle.reading.specs.Relation.{digits, Signed, address, End, skipRows, Program, chars}
 use Rattle.places.specs.Begins.{Digit, Begins, Closes, Due}
 
 -- ---- one row that does not fit
@@ -38,10 +37,31 @@ pub data Miscounted (least most : ℕ) (ds : List ℕ) (c : ℕ) : Type 0 where
 abbrev pub SignRow : ℕ → Type 0
 SignRow c = (c ≡ 43) ⊎ (c ≡ 45)
 
--- right after an address: a sign that the item bars, or none where one must stand
-pub data SignFault : Sign → ℕ → Type 0 where
-  barred-sign : {c : ℕ} → SignRow c → SignFault barred c
-  missing-sign : {c : ℕ} → (SignRow c → ⊥) → SignFault required c
+-- what a word's data begin with
+abbrev pub FigureRow : ℕ → Type 0
+FigureRow c = Digit c ⊎ SignRow c
+
+-- the character may begin an item's data here: behind an address any may, at fault or not; behind a tab alone a digit or a sign
+abbrev pub Enters : Way → ℕ → Type 0
+Enters by-letter c = Unit {0}
+Enters by-both c = Unit {0}
+Enters by-tab c = FigureRow c
+
+-- where the data begin: a sign that the item bars, or none where one must stand
+pub data SignFault (y : Way) : Sign → ℕ → Type 0 where
+  barred-sign : {c : ℕ} → SignRow c → SignFault y barred c
+  missing-sign : {c : ℕ} → (SignRow c → ⊥) → Enters y c → SignFault y required c
+
+-- the character goes on with what stands before it: a digit behind a digit, or a word's data right behind a tab where words have no address
+pub data GoesOn (y : Way) (last c : ℕ) : Type 0 where
+  digit-behind : Digit last → Digit c → GoesOn y last c
+  data-behind : y ≡ by-tab → last ≡ 9 → FigureRow c → GoesOn y last c
+
+-- where no sign and no digit stands yet, the count of digits is at fault: behind an address, unless the character is a sign; behind a tab alone no word has begun
+abbrev pub NoneYet : Way → ℕ → Type 0
+NoneYet by-letter c = SignRow c → ⊥
+NoneYet by-both c = SignRow c → ⊥
+NoneYet by-tab c = ⊥
 
 -- where an end could stand: behind "%" (8), or where it would close a block (10)
 pub data EndDue (f : Format) : ℕ → List ℕ → Type 0 where
@@ -57,14 +77,14 @@ lastOf (c ∷ (d ∷ x)) = lastOf (d ∷ x)
 -- why the character c does not fit behind the rows x, by the refusal's number
 pub data Misfit (f : Format) : ℕ → List ℕ → ℕ → Type 0 where
   percent : {c : ℕ} → (c ≡ 37 → ⊥) → Misfit f 8 [] c
-  end : {n c : ℕ} {x : List ℕ} → EndDue f n x → (c ≡ 10 → ⊥) → (c ≡ 13 → ⊥) → (Digit (lastOf x) → Digit c → ⊥) → Misfit f n x c
+  end : {n c : ℕ} {x : List ℕ} → EndDue f n x → (c ≡ 10 → ⊥) → (c ≡ 13 → ⊥) → (GoesOn (wayOf f) (lastOf x) c → ⊥) → Misfit f n x c
   start : {c : ℕ} {bs : List Block} {h : List ℕ} (skip : Bool) → Program f bs h → NoStart skip c → Misfit f 9 (h ++ skipRows skip) c
   number : {c : ℕ} {bs : List Block} {h ds : List ℕ} (skip alignment : Bool) → Program f bs h → Every Digit ds → Miscounted (f .sequence) (f .sequence) ds c
       → Misfit f 9 (h ++ numberRows skip alignment ds) c
-  figures : {c m : ℕ} {z : ℤ} {s ds : List ℕ} (it : Item) (x : List ℕ) → List·Memᴰ it (itemsOf f) → Due f it x → Signed m (signOf (it .kind)) z s → Every Digit ds
-      → Miscounted (fewest (missingOf (it .kind)) (width (it .kind))) (width (it .kind)) ds c → (s ++ ds ≡ [] → SignRow c → ⊥)
-      → Misfit f 11 (x ++ (it .letter ∷ (s ++ ds))) c
-  sign : {c : ℕ} (it : Item) (x : List ℕ) → List·Memᴰ it (itemsOf f) → Due f it x → SignFault (signOf (it .kind)) c → Misfit f 12 (x ++ (it .letter ∷ [])) c
+  figures : {c m : ℕ} {z : ℤ} {s ds : List ℕ} (it : Item) (x : List ℕ) → Due f it x → Signed m (signOf (it .kind)) z s → Every Digit ds
+      → Miscounted (fewest (missingOf (it .kind)) (width (it .kind))) (width (it .kind)) ds c → (s ++ ds ≡ [] → NoneYet (wayOf f) c)
+      → Misfit f 11 (x ++ address (wayOf f) it ++ (s ++ ds)) c
+  sign : {c : ℕ} (it : Item) (x : List ℕ) → Due f it x → SignFault (wayOf f) (signOf (it .kind)) c → Misfit f 12 (x ++ address (wayOf f) it) c
 
 -- ---- a tape that ends too soon
 
@@ -77,7 +97,6 @@ pub data Cut (f : Format) : ℕ → List ℕ → Type 0 where
 
 -- a word of a speed item with k digits could stand behind x
 pub record SpeedDue (f : Format) (it : Item) (k : ℕ) (x : List ℕ) : Type 0 where
-  pub item : List·Memᴰ it (itemsOf f)
   pub speed : it .kind ≡ Kind.Speed k
   pub due : Due f it x
 
@@ -97,27 +116,26 @@ pub data Refusal (f : Format) (len : ℕ) (rs : List KeptRow) : ℕ → ℕ → 
   -- 8, 10 at a CR's own row: with it the rows begin a program's, and with the row behind it no more
   at-cr : {n : ℕ} (b a : List KeptRow) (cr r : KeptRow) → rs ≡ b ++ (cr ∷ (r ∷ a)) → EndDue f n (chars b) → cr .char ≡ 13 → (r .char ≡ 10 → ⊥)
       → Begins f (chars b ++ (13 ∷ [])) → (Begins f (chars b ++ (13 ∷ (r .char ∷ []))) → ⊥) → Refusal f len rs n (cr .place)
-  -- 13 at the address: the rows before it begin a program's, and up to the word's last digit no more; a further digit would be 11
-  at-address : {k : ℕ} {it : Item} (c : ℕ) (b w a : List KeptRow) (r : KeptRow) → rs ≡ b ++ (r ∷ (w ++ a)) → SpeedDue f it k (chars b) → r .char ≡ it .letter → chars w ≡ digits k c
+  -- 13 at the word's first row, its address or without one its first digit: the rows before it begin a program's, and up to its last digit no more; a further digit would be 11
+  at-word : {k : ℕ} {it : Item} (c : ℕ) (b w a : List KeptRow) (r : KeptRow) → rs ≡ b ++ (r ∷ (w ++ a)) → SpeedDue f it k (chars b) → chars (r ∷ w) ≡ address (wayOf f) it ++ digits k c
       → c < 10 ^ k → T (secondZero k c) → ((d : KeptRow) (l : List KeptRow) → a ≡ d ∷ l → Digit (d .char) → ⊥) → Begins f (chars b) → (Begins f (chars b ++ chars (r ∷ w)) → ⊥)
       → Refusal f len rs 13 (r .place)
   -- 8, 14 at the length: all rows begin a program's
   at-length : {n : ℕ} → Cut f n (chars rs) → Begins f (chars rs) → Refusal f len rs n len
   -- 11 before 13: the digits ds before the wrong row are past saving; other digits in their place begin a program's rows, and with the wrong row none do
-  past-saving : {k : ℕ} {it : Item} (b ds a : List KeptRow) (l r : KeptRow) → rs ≡ b ++ (l ∷ (ds ++ (r ∷ a))) → SpeedDue f it k (chars b) → l .char ≡ it .letter
-      → Spoilt (chars ds) → Every Digit (chars ds) → Misfit f 11 (chars b ++ (it .letter ∷ chars ds)) (r .char) → (Begins f (chars b ++ (it .letter ∷ chars ds)) → ⊥)
-      → ((o : List ℕ) × Every Digit o × (length o ≡ length ds) × Begins f (chars b ++ (it .letter ∷ o)))
-      → ((o : List ℕ) → Every Digit o → length o ≡ length ds → Begins f (chars b ++ (it .letter ∷ (o ++ (r .char ∷ [])))) → ⊥) → Refusal f len rs 11 (r .place)
+  past-saving : {k : ℕ} {it : Item} (b ds a : List KeptRow) (r : KeptRow) (x : List ℕ) → rs ≡ b ++ (ds ++ (r ∷ a)) → SpeedDue f it k x → chars b ≡ x ++ address (wayOf f) it
+      → Spoilt (chars ds) → Every Digit (chars ds) → Misfit f 11 (chars b ++ chars ds) (r .char) → (Begins f (chars b ++ chars ds) → ⊥)
+      → ((o : List ℕ) × Every Digit o × (length o ≡ length ds) × Begins f (chars b ++ o))
+      → ((o : List ℕ) → Every Digit o → length o ≡ length ds → Begins f (chars b ++ (o ++ (r .char ∷ []))) → ⊥) → Refusal f len rs 11 (r .place)
   -- the same where the tape ends before there are enough digits
-  cut-past-saving : {k : ℕ} {it : Item} (b ds : List KeptRow) (l : KeptRow) → rs ≡ b ++ (l ∷ ds) → SpeedDue f it k (chars b) → l .char ≡ it .letter → Spoilt (chars ds)
+  cut-past-saving : {k : ℕ} {it : Item} (b ds : List KeptRow) (x : List ℕ) → rs ≡ b ++ ds → SpeedDue f it k x → chars b ≡ x ++ address (wayOf f) it → Spoilt (chars ds)
       → Every Digit (chars ds) → length ds < k → Cut f 14 (chars rs) → (Begins f (chars rs) → ⊥)
-      → ((o : List ℕ) × Every Digit o × (length o ≡ length ds) × Begins f (chars b ++ (it .letter ∷ o)))
+      → ((o : List ℕ) × Every Digit o × (length o ≡ length ds) × Begins f (chars b ++ o))
       → Refusal f len rs 14 len
 
--- the tape t passes the first three stages, and under the edition e and the shorthand s the fourth refuses it by n at p
-pub record RefusalOf (e : ℕ) (s t : List ℕ) (n p : ℕ) : Type 0 where
+-- the tape t passes the first three stages, and under the edition e, the shorthand s and the profile p the fourth refuses it by n at k
+pub record RefusalOf (e : ℕ) (s p t : List ℕ) (n k : ℕ) : Type 0 where
   pub format : Format
-  pub lawful : Lawful e format
-  pub spelt : s ≡ spell format
+  pub settled : Settled e s p format
   pub passes : Passes t
-  pub says : Refusal format (length t) (kept t) n p
+  pub says : Refusal format (length t) (kept t) n k
