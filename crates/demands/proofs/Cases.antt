@@ -17,6 +17,7 @@ use Rattle.shorthand.specs.Order.{rank, due, after}
 use Rattle.shorthand.specs.Stand.{digitsOf, afterDigits, seen, stand, standN}
 use Rattle.shorthand.specs.Parse.{itemsFrom, parsedIn, parsed}
 use Rattle.shorthand.proofs.Cases.{bytes}
+use Rattle.profile.specs.Answers.{profiled, agreed}
 use Rattle.words.specs.declared.Value.{Value}
 use Rattle.words.specs.declared.Value.the-variants.{Number}
 use Rattle.reading.specs.Record.{blank}
@@ -40,7 +41,7 @@ unfoldable pub answered : Question → Answer Value
 answered (row b) = judged (b ∷ []) >> taken (Number (character b))
 answered (speed-of k c) = speedFor k c >>= λ v. taken (Value.Speed v)
 answered (code-of k v) = codeFor k v >>= λ c. taken (Number c)
-answered (word-of e s t) = blockNumbered e (bytes s) (rows t) 0 >>= λ b. taken (getD (b .words) 0 blank .value)
+answered (word-of e s t) = blockNumbered e (bytes s) [] (rows t) 0 >>= λ b. taken (getD (b .words) 0 blank .value)
 answered (shorthand e s) = parsed e (bytes s) >> taken (Number 0)
 
 pub record Case : Type 0 where
@@ -74,5 +75,5 @@ cases =
     ∷ []
 
 pub cases-hold : map (λ (c : Case). answered (c .asked)) cases ≡ map (λ (c : Case). c .answer) cases
-unfolding answered ones entry lowest scan judged keptFrom speedFor meaning codeFor rounded past pastWithin written rank due after digitsOf afterDigits seen stand standN itemsFrom parsedIn parsed run figures dataAt wordsAt startAt blockAt headAt blocksAt programAt read readUnder
+unfolding answered ones entry lowest scan judged keptFrom speedFor meaning codeFor rounded past pastWithin written rank due after digitsOf afterDigits seen stand standN itemsFrom parsedIn parsed profiled agreed run figures dataAt wordsAt startAt blockAt headAt blocksAt programAt read readUnder
 cases-hold = refl

@@ -19,13 +19,12 @@ use Rattle.speeds.specs.Meaning.{speedFor}
 use Rattle.speeds.specs.Coding.{codeFor}
 use Rattle.speeds.proofs.Answers.{speed-answers, code-answers}
 use Rattle.shorthand.specs.declared.Format.{Format}
-use Rattle.shorthand.specs.Lawful.{Lawful}
-use Rattle.shorthand.specs.Spell.{spell}
 use Rattle.shorthand.specs.Mending.{Spelling}
 use Rattle.shorthand.specs.Parse.{parsed}
-use Rattle.shorthand.proofs.Accepted.{sound, accepted}
-use Rattle.shorthand.proofs.Fairness.{lawful-facts}
 use Rattle.shorthand.proofs.Mended.{spelling-exactly}
+use Rattle.profile.specs.Answers.{agreed}
+use Rattle.profile.specs.Relation.{Settled, Unsettled}
+use Rattle.profile.proofs.Settling.{settled-exactly, unsettled-exactly, settled-facts}
 use Rattle.reading.specs.declared.Block.{Block}
 use Rattle.reading.specs.Parse.{Entry}
 use Rattle.reading.specs.Answers.{nth, programAt, read, readUnder, entryNumbered, counted, blockNumbered, rowsNumbered}
@@ -40,46 +39,42 @@ use Rattle.demands.specs.Tables.{rows, program, Reading, Fetching, unrea
 abbrev pub Answered : {A : Type 0} → (ℕ → ℕ → Type 0) → Answer A → Type 0
 Answered table a = Holds table (λ x. Unit {0}) a
 
--- ---- the shorthand
+-- ---- the shorthand and the profile
 
-parsed-answered : (e : ℕ) (s : List ℕ) → Holds (Spelling e s) (λ f. parsed e s ≡ taken f) (parsed e s)
-parsed-answered e s = by (parsed e s) refl
+settled-answered : (e : ℕ) (s p : List ℕ) → Holds (Unsettled e s p) (λ f. Settled e s p f) (agreed e s p)
+settled-answered e s p = by (agreed e s p) refl
   where
-    by : (a : Answer Format) → parsed e s ≡ a → Holds (Spelling e s) (λ f. parsed e s ≡ taken f) a
-    by (taken f) q = value q
-    by (refused n p) q = refusal (spelling-exactly e s n p .0 q)
+    by : (a : Answer Format) → agreed e s p ≡ a → Holds (Unsettled e s p) (λ f. Settled e s p f) a
+    by (taken f) q = value (settled-exactly e s p f .0 q)
+    by (refused n k) q = refusal (unsettled-exactly e s p n k .0 q)
 
 -- ---- a tape
 
-module _ (e : ℕ) (s t : List ℕ) where
-  under-answered : Answered (Reading e s t) (readUnder e s t)
+module _ (e : ℕ) (s p t : List ℕ) where
+  under-answered : Answered (Reading e s p t) (readUnder e s p t)
   unfolding readUnder read
-  under-answered = by (parsed-answered e s)
+  under-answered = by (settled-answered e s p)
     where
-      fourth : (f : Format) → parsed e s ≡ taken f → judged t ≡ taken tt → (a : Answer (List Entry)) → programAt (length t) f (kept t) ≡ a → Answered (Reading e s t) a
-      fourth f q c (taken es) r = value tt
-      fourth f q c (refused n p) r =
-          let h = sound e s f q in
-          refusal (Reading.tape (program (record { format = f; lawful = h .1; spelt = h .0; passes = clean-passes t c; says = refused-rows f (lawful-facts (h .1)) (length t) (kept t) n p r })))
+      fourth : (f : Format) → Settled e s p f → judged t ≡ taken tt → (a : Answer (List Entry)) → programAt (length t) f (kept t) ≡ a → Answered (Reading e s p t) a
+      fourth f h c (taken es) r = value tt
+      fourth f h c (refused n k) r =
+          refusal (Reading.tape (program (record { format = f; settled = h; passes = clean-passes t c; says = refused-rows f (settled-facts h) (length t) (kept t) n k r })))
 
-      stages : (f : Format) → parsed e s ≡ taken f → (j : Answer (Unit {0})) → judged t ≡ j → Holds (RowRefusal t) (λ u. Unit {0}) j → Answered (Reading e s t) (j >> programAt (length t) f (kept t))
+      stages : (f : Format) → Settled e s p f → (j : Answer (Unit {0})) → judged t ≡ j → Holds (RowRefusal t) (λ u. Unit {0}) j → Answered (Reading e s p t) (j >> programAt (length t) f (kept t))
       stages f q (taken u) c h = fourth f q c _ refl
-      stages f q (refused n p) c (refusal h) = (let k = sound e s f q in refusal (Reading.tape (rows (k .1) (k .0) h)))
+      stages f q (refused n k) c (refusal h) = refusal (Reading.tape (rows q h))
 
-      read-answered : (f : Format) → parsed e s ≡ taken f → Answered (Reading e s t) (read f t)
-      read-answered f q = stages f q (judged t) refl (row-refusals t)
+      by : {a : Answer Format} → Holds (Unsettled e s p) (λ f. Settled e s p f) a → Answered (Reading e s p t) (a >>= λ f. read f t)
+      by (refusal h) = refusal (Reading.settling h)
+      by (value {a = f} q) = stages f q (judged t) refl (row-refusals t)
 
-      by : {a : Answer Format} → Holds (Spelling e s) (λ f. parsed e s ≡ taken f) a → Answered (Reading e s t) (a >>= λ f. read f t)
-      by (refusal h) = refusal (Reading.shorthand h)
-      by (value {a = f} q) = read-answered f q
-
-  entry-answered : (n : ℕ) → Answered (Fetching e s t n) (entryNumbered e s t n)
-  entry-answered n = by (readUnder e s t) refl under-answered
+  entry-answered : (n : ℕ) → Answered (Fetching e s p t n) (entryNumbered e s p t n)
+  entry-answered n = by (readUnder e s p t) refl under-answered
     where
-      by : (a : Answer (List Entry)) → readUnder e s t ≡ a → Answered (Reading e s t) a → Answered (Fetching e s t n) (a >>= nth n)
+      by : (a : Answer (List Entry)) → readUnder e s p t ≡ a → Answered (Reading e s p t) a → Answered (Fetching e s p t n) (a >>= nth n)
       by (taken es) q h =
           holds-cond (ltb n (length es)) (λ l. value tt) (λ l. refusal (past (rw q) (ltb-false n (length es) l)))
-      by (refused m p) q (refusal h) = refusal (unread h)
+      by (refused m k) q (refusal h) = refusal (unread h)
 
 -- ---- a record
 
@@ -92,41 +87,48 @@ word-numbers n h = by (eqb n 16) (eqb n 17) (eqb n 18) (eqb→eq n 16) (eqb→eq
     by false false true p q r h = let e = r tt in (omega arith, omega arith)
     by false false false p q r h = absurd h
 
-of-barred : {e : ℕ} {f : Format} {s : List ℕ} (b : Block) (buffer : List ℕ) → Lawful e f → s ≡ spell f → {n p : ℕ} → Barred f b buffer n p → Punching e s b buffer n p
-of-barred b buffer l q (inl (Fault.crowded h)) = Punching.crowded h
-of-barred b buffer l q (inl (Fault.unnumbered c h)) = Punching.unnumbered l q h
-of-barred b buffer l q (inl (Fault.at-word {n = n} c w i h)) = let k = word-numbers n w in Punching.word (k .0) (k .1) i h
-of-barred b buffer l q (inr h) = rw (h .0, h .1) (Punching.full l q (rw (h .1) at (h .2)))
+of-barred : {e : ℕ} {f : Format} {s p : List ℕ} (b : Block) (buffer : List ℕ) → Settled e s p f → {n k : ℕ} → Barred f b buffer n k → Punching e s p b buffer n k
+of-barred b buffer q (inl (Fault.crowded h)) = Punching.crowded h
+of-barred b buffer q (inl (Fault.unnumbered c h)) = Punching.unnumbered q h
+of-barred b buffer q (inl (Fault.at-word {n = n} c w i h)) = let k = word-numbers n w in Punching.word (k .0) (k .1) i h
+of-barred b buffer q (inr h) = rw (h .0, h .1) (Punching.full q (rw (h .1) at (h .2)))
 
--- "Every tape image, shorthand and block record gets an answer, and the work ends. What can't be taken is refused by a number
+-- "Every tape image, shorthand and block record", and every profile, "gets an answer, and the work ends. What can't be taken is refused by a number
 -- and a place." The functions are total; here, of the answer of each:
 
 pub tape-checked : (t : List ℕ) → Answered (RowRefusal t) (judged t)
 tape-checked t = row-refusals t
 
-module _ (e : ℕ) (s : List ℕ) where
-  pub shorthand-answered : Answered (Spelling e s) (parsed e s)
-  shorthand-answered = holds-map (λ f h. tt) (parsed-answered e s)
+pub shorthand-answered : (e : ℕ) (s : List ℕ) → Answered (Spelling e s) (parsed e s)
+shorthand-answered e s = by (parsed e s) refl
+  where
+    by : (a : Answer Format) → parsed e s ≡ a → Answered (Spelling e s) a
+    by (taken f) q = value tt
+    by (refused n k) q = refusal (spelling-exactly e s n k .0 q)
 
-  pub count-answered : (t : List ℕ) → Answered (Reading e s t) (counted e s t)
-  count-answered t = holds-bind (under-answered e s t) (λ es h. value tt)
+module _ (e : ℕ) (s p : List ℕ) where
+  pub profile-answered : Answered (Unsettled e s p) (agreed e s p)
+  profile-answered = holds-map (λ f h. tt) (settled-answered e s p)
 
-  pub block-answered : (t : List ℕ) (n : ℕ) → Answered (Fetching e s t n) (blockNumbered e s t n)
-  block-answered t n = holds-bind (entry-answered e s t n) (λ x h. value tt)
+  pub count-answered : (t : List ℕ) → Answered (Reading e s p t) (counted e s p t)
+  count-answered t = holds-bind (under-answered e s p t) (λ es h. value tt)
 
-  pub rows-answered : (t : List ℕ) (n : ℕ) → Answered (Fetching e s t n) (rowsNumbered e s t n)
-  rows-answered t n = holds-bind (entry-answered e s t n) (λ x h. value tt)
+  pub block-answered : (t : List ℕ) (n : ℕ) → Answered (Fetching e s p t n) (blockNumbered e s p t n)
+  block-answered t n = holds-bind (entry-answered e s p t n) (λ x h. value tt)
 
-  pub punching-answered : (b : Block) (buffer : List ℕ) → Answered (Punching e s b buffer) (blockPunched e s b buffer)
+  pub rows-answered : (t : List ℕ) (n : ℕ) → Answered (Fetching e s p t n) (rowsNumbered e s p t n)
+  rows-answered t n = holds-bind (entry-answered e s p t n) (λ x h. value tt)
+
+  pub punching-answered : (b : Block) (buffer : List ℕ) → Answered (Punching e s p b buffer) (blockPunched e s p b buffer)
   unfolding blockPunched
-  punching-answered b buffer = by (parsed-answered e s)
+  punching-answered b buffer = by (settled-answered e s p)
     where
-      under : (f : Format) → parsed e s ≡ taken f → (a : Answer (List ℕ)) → blockFor f b buffer ≡ a → Answered (Punching e s b buffer) a
+      under : (f : Format) → Settled e s p f → (a : Answer (List ℕ)) → blockFor f b buffer ≡ a → Answered (Punching e s p b buffer) a
       under f q (taken r) w = value tt
-      under f q (refused n p) w = let h = sound e s f q in refusal (of-barred b buffer (h .1) (h .0) (refused-only f b buffer n p w))
+      under f q (refused n k) w = refusal (of-barred b buffer q (refused-only f b buffer n k w))
 
-      by : {a : Answer Format} → Holds (Spelling e s) (λ f. parsed e s ≡ taken f) a → Answered (Punching e s b buffer) (a >>= λ f. blockFor f b buffer)
-      by (refusal h) = refusal (Punching.shorthand h)
+      by : {a : Answer Format} → Holds (Unsettled e s p) (λ f. Settled e s p f) a → Answered (Punching e s p b buffer) (a >>= λ f. blockFor f b buffer)
+      by (refusal h) = refusal (Punching.settling h)
       by (value {a = f} q) = under f q (blockFor f b buffer) refl
 
 pub head-answered : (buffer : List ℕ) → Answered (Heading buffer) (headPunched buffer)
@@ -139,14 +141,14 @@ pub code-answered : (k v : ℕ) → Answered Coding (codeFor k v)
 code-answered k v = ⊎-elim (λ c. rw (c .1) (value tt)) (⊎-elim (λ q. rw q (refusal Coding.digits)) (λ q. rw q (refusal Coding.beyond))) (code-answers k v)
 
 -- exactly: the table's refusal is the answer, and no other is
-table-refused : {e : ℕ} {s t : List ℕ} {n p : ℕ} → Reading e s t n p → counted e s t ≡ refused n p
+table-refused : {e : ℕ} {s p t : List ℕ} {n k : ℕ} → Reading e s p t n k → counted e s p t ≡ refused n k
 unfolding readUnder read
-table-refused {e} {s} {t} {n} {p} (Reading.shorthand h) = rw (spelling-exactly e s n p .1 h)
-table-refused {e} {s} {t} {n} {p} (Reading.tape (rows {f = f} l q r)) = rw (accepted e s f .1 (q, l), refused-exactly t n p .1 r)
-table-refused {e} {s} {t} {n} {p} (Reading.tape (program r)) = rw (refusal-read e s t n p r)
+table-refused {e} {s} {p} {t} {n} {k} (Reading.settling h) = rw (unsettled-exactly e s p n k .1 h)
+table-refused {e} {s} {p} {t} {n} {k} (Reading.tape (rows {f = f} q r)) = rw (settled-exactly e s p f .1 q, refused-exactly t n k .1 r)
+table-refused {e} {s} {p} {t} {n} {k} (Reading.tape (program r)) = rw (refusal-read e s p t n k r)
 
-pub reading-exactly : (e : ℕ) (s t : List ℕ) (n p : ℕ) → (counted e s t ≡ refused n p) ↔ Reading e s t n p
-reading-exactly e s t n p = (λ q. of-refused (count-answered e s t) q, table-refused)
+pub reading-exactly : (e : ℕ) (s p t : List ℕ) (n k : ℕ) → (counted e s p t ≡ refused n k) ↔ Reading e s p t n k
+reading-exactly e s p t n k = (λ q. of-refused (count-answered e s p t) q, table-refused)
 
 -- "a refused punching leaves the buffer untouched": what a refusal leaves of each thing that is handed back
 

@@ -1,5 +1,5 @@
 -- Demand 3: no tape is shared, and damage is found.
-use mathlib.Core.Path.{_≡_, ap, _∙_}
+use mathlib.Core.Path.{_≡_}
 use mathlib.Core.List.{List}
 use Prim.Native.Nat.{ℕ, _<_, _≤_}
 use native.Mathlib.Omega.{arith}
@@ -10,8 +10,8 @@ use Rattle.rows.specs.Stages.{judged}
 use Rattle.rows.specs.Passes.{Changed, Damaged, First}
 use Rattle.rows.proofs.Parity.{damaged, some-first}
 use Rattle.shorthand.specs.declared.Format.{Format}
-use Rattle.shorthand.specs.Parse.{parsed}
-use Rattle.shorthand.proofs.Accepted.{complete}
+use Rattle.profile.specs.Answers.{agreed}
+use Rattle.profile.proofs.Settling.{settled-exactly}
 use Rattle.parts.specs.Ends.{entered}
 use Rattle.parts.proofs.Entering.{entered-refused}
 use Rattle.reading.specs.declared.Block.{Block}
@@ -22,39 +22,39 @@ use Rattle.reading.specs.Remains.{Remains, all, later}
 use Rattle.reading.proofs.Programs.{one-program}
 use Rattle.lines.specs.Listing.{most, listedUnder}
 
-module _ (e : ℕ) (s : List ℕ) where
-  -- "Under one edition and shorthand two different programs never share a tape,
+module _ (e : ℕ) (s p : List ℕ) where
+  -- "Under one edition and shorthand", and profile, "two different programs never share a tape,
   -- whatever blanks, rubouts, remarks and dropped zeros they carry."
-  pub never-shared : (t : List ℕ) (bs cs : List Block) → TapeOf e s bs t → TapeOf e s cs t → bs ≡ cs
-  never-shared = one-program e s
+  pub never-shared : (t : List ℕ) (bs cs : List Block) → TapeOf e s p bs t → TapeOf e s p cs t → bs ≡ cs
+  never-shared = one-program e s p
 
-  -- every function that reads a tape refuses u by the number n at the place p, each by the definition that its promise cites: rows::check, parts::enter_tape,
+  -- every function that reads a tape refuses u by the number n at the place k, each by the definition that its promise cites: rows::check, parts::enter_tape,
   -- reading::count_blocks with crumbtrellis_count_blocks, read_block, block_rows, and lines::count_listed within its own limit of rows. pages::list_page asks
   -- for what is left of an accepted tape, which u is not. All else that is handed rows takes a step of a walk, behind one of these
-  pub record Refused (u : List ℕ) (n p : ℕ) : Type 0 where
-    pub check : judged u ≡ refused n p
-    pub enter : entered u ≡ refused n p
-    pub count : counted e s u ≡ refused n p
-    pub block : (i : ℕ) → blockNumbered e s u i ≡ refused n p
-    pub rows : (i : ℕ) → rowsNumbered e s u i ≡ refused n p
-    pub listed : length u ≤ most → sizeOf (listedUnder e s u) ≡ refused n p
+  pub record Refused (u : List ℕ) (n k : ℕ) : Type 0 where
+    pub check : judged u ≡ refused n k
+    pub enter : entered u ≡ refused n k
+    pub count : counted e s p u ≡ refused n k
+    pub block : (i : ℕ) → blockNumbered e s p u i ≡ refused n k
+    pub rows : (i : ℕ) → rowsNumbered e s p u i ≡ refused n k
+    pub listed : length u ≤ most → sizeOf (listedUnder e s p u) ≡ refused n k
     pub pages : (f : Format) (from : ℕ) (es : List Entry) → Remains f u from es → ⊥
 
   -- what is left of an accepted tape is not left of one that is not entered
-  none-remains : {f : Format} {u : List ℕ} {from : ℕ} {es : List Entry} (n p : ℕ) → entered u ≡ refused n p → Remains f u from es → ⊥
-  none-remains n p e (all r o) = let z : _≡_ {A = ℕ} 0 1 = cc in omega (arith, z)
-  none-remains n p e (later r) = none-remains n p e r
+  none-remains : {f : Format} {u : List ℕ} {from : ℕ} {es : List Entry} (n k : ℕ) → entered u ≡ refused n k → Remains f u from es → ⊥
+  none-remains n k e (all r o) = let z : _≡_ {A = ℕ} 0 1 = cc in omega (arith, z)
+  none-remains n k e (later r) = none-remains n k e r
 
   -- "And if in any choice of rows of an accepted tape, at least one, an odd number of holes is changed in each, the tape is
   -- refused for parity at the first of those rows."
-  pub damage-refused : (t u : List ℕ) (bs : List Block) → TapeOf e s bs t → Damaged t u
+  pub damage-refused : (t u : List ℕ) (bs : List Block) → TapeOf e s p bs t → Damaged t u
       → (i : ℕ) → i < length t → Changed (getD t i 0) (getD u i 0) → (k : ℕ) × First t u k × Refused u 5 k
   unfolding readUnder read listedUnder
   damage-refused t u bs h d i l c =
       let f = some-first t u (h .passes .even) d i l c in
       let j : judged u ≡ refused 5 (f .0) = damaged t u (h .passes .even) d (h .passes .short) (f .0) (f .1) in
-      let g : parsed e s ≡ taken (h .format) = ap (parsed e) (h .spelt) ∙ complete (h .lawful) in
-      let r : readUnder e s u ≡ refused 5 (f .0) = rw (g, j) in
+      let g : agreed e s p ≡ taken (h .format) = settled-exactly e s p (h .format) .1 (h .settled) in
+      let r : readUnder e s p u ≡ refused 5 (f .0) = rw (g, j) in
       let o = entered-refused u 5 (f .0) j in (
         f .0,
         f .1,

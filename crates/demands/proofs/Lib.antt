@@ -4,4 +4,5 @@ pub mod TapeParts
 pub mod Demand2
 pub mod Demand3
 pub mod OneResult
+pub mod NoProfile
 pub mod Cases

@@ -18,10 +18,8 @@ use Rattle.rows.proofs.Judged.{passes-clean}
 use Rattle.rows.proofs.KeptRows.{kept-chars}
 use Rattle.rows.proofs.TapesJoined.{passes-append, kept-append}
 use Rattle.shorthand.specs.declared.Format.{Format}
-use Rattle.shorthand.specs.Lawful.{Lawful}
-use Rattle.shorthand.specs.Spell.{spell}
-use Rattle.shorthand.specs.Parse.{parsed}
-use Rattle.shorthand.proofs.Accepted.{complete, one-format}
+use Rattle.profile.specs.Relation.{Settled}
+use Rattle.profile.proofs.Settling.{settled-exactly, one-format}
 use Rattle.reading.specs.declared.Block.{Block}
 use Rattle.reading.specs.Relation.{Blocked, none, more, Program, program, chars, TapeOf}
 use Rattle.reading.specs.Parse.{Entry}
@@ -49,24 +47,23 @@ passing l h w = record { short = l; even = h .evens; known = h .knowns; formed =
 fed : {x u : List ℕ} → PartAs x u → Fed u
 fed k = record { front = k .front; feed = k .feed; rows = k .rows; ends = k .ends }
 
-module _ {e : ℕ} {s : List ℕ} {f : Format} (lawful : Lawful e f) (spelt : s ≡ spell f) where
+module _ {e : ℕ} {s p : List ℕ} {f : Format} (settled : Settled e s p f) where
   -- a part adds its block to any accepted tape
-  alone : {b : Block} {x u : List ℕ} → Legible u → Blocked f b x → PartAs x u → Alone e s b u
-  alone {b} {x} {u} p h k cs g a l =
-      let same : a .format ≡ f = one-format (a .lawful) lawful (sym (a .spelt) ∙ spelt) in
+  alone : {b : Block} {x u : List ℕ} → Legible u → Blocked f b x → PartAs x u → Alone e s p b u
+  alone {b} {x} {u} q h k cs g a l =
+      let same : a .format ≡ f = one-format (a .settled) settled in
       let rows : chars (kept (g ++ u)) ≡ chars (kept g) ++ x =
       ap chars (kept-append (a .passes .formed) 0 u) ∙ chars-append (kept g) _ ∙ ap (λ y. chars (kept g) ++ y) (kept-chars u false (0 + length g) 0 ∙ k .keeps) in
       let stood : Program f cs (chars (kept g)) = subst (λ (i : Format). Program i cs (chars (kept g))) same (a .stands) in
       let stands : Program f (cs ++ (b ∷ [])) (chars (kept g) ++ (x ++ [])) = program-append stood (more h none) in
       record {
         format = f;
-        lawful = lawful;
-        spelt = spelt;
-        passes = passes-append (a .passes) (passing (omega (arith, l, length-append g u)) p (k .formed)) l;
+        settled = settled;
+        passes = passes-append (a .passes) (passing (omega (arith, l, length-append g u)) q (k .formed)) l;
         stands = rw rows (rw (append-nil x) at stands);
       }
 
-  each : {from : ℕ} {es : List Entry} {us : List (List ℕ)} {y : List ℕ} → Parted f from es us y → Legible y → Each e s (blocksOf es) us
+  each : {from : ℕ} {es : List Entry} {us : List (List ℕ)} {y : List ℕ} → Parted f from es us y → Legible y → Each e s p (blocksOf es) us
   each (over w q) h = Each.none
   each (part {y = y} u b k r) h = Each.more (fed k) (alone (legible-front u y h) b k) (each r (legible-back u y h))
 
@@ -79,16 +76,15 @@ behind-parts : {f : Format} {from : ℕ} {es : List Entry} {us : List (List ℕ)
 behind-parts {from = from} (over {y = y} w q) = (y, refl, nothing-kept (kept y) (kept-chars y false 0 from ∙ ap chars q))
 behind-parts (part {us = us} u b k r) = let h = behind-parts r in (h .0, ap (λ v. u ++ v) (h .1) ∙ sym (append-assoc u (inRow us) (h .0)), h .2)
 
-module _ (e : ℕ) (s t : List ℕ) (bs : List Block) (h : TapeOf e s bs t) where
-  program-answers : (es : List Entry) → readUnder e s t ≡ taken es → programAt (length t) (h .format) (kept t) ≡ taken es
+module _ (e : ℕ) (s p t : List ℕ) (bs : List Block) (h : TapeOf e s p bs t) where
+  program-answers : (es : List Entry) → readUnder e s p t ≡ taken es → programAt (length t) (h .format) (kept t) ≡ taken es
   unfolding readUnder read
   program-answers es q =
-      let p : parsed e s ≡ taken (h .format) = ap (parsed e) (h .spelt) ∙ complete (h .lawful) in
-      rw (p, passes-clean t (h .passes)) at q
+      rw (settled-exactly e s p (h .format) .1 (h .settled), passes-clean t (h .passes)) at q
 
-  pub parts : Parts e s bs t
+  pub parts : Parts e s p bs t
   parts =
-      let a = tape-read e s t bs h in
+      let a = tape-read e s p t bs h in
       let w = whole (h .format) t (a .0) (h .passes .formed) (program-answers (a .0) (a .1)) in
       let z = behind-parts (w .parted) in
       let all : Legible t = record { evens = h .passes .even; knowns = h .passes .known } in
@@ -103,13 +99,12 @@ module _ (e : ℕ) (s t : List ℕ) (bs : List Block) (h : TapeOf e s bs t) wher
         heads =
             record {
               format = h .format;
-              lawful = h .lawful;
-              spelt = h .spelt;
+              settled = h .settled;
               passes = passing short (legible-front (w .head) (w .y) legible) (w .is .formed);
               stands = rw (w .is .keeps, sym (append-nil (w .mark))) (program (w .ends) none);
             };
         fed = fed (w .is);
-        each = rw (a .2) at (each (h .lawful) (h .spelt) (w .parted) (legible-back (w .head) (w .y) legible));
+        each = rw (a .2) at (each (h .settled) (w .parted) (legible-back (w .head) (w .y) legible));
         blank = z .2;
         handed = λ n l. rw (a .1, lt-ltb n (length (a .0)) (rw same l), handed (w .parted) t (w .head) (w .joined) refl n (rw same l));
       }

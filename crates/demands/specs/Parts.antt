@@ -19,13 +19,13 @@ pub record Fed (u : List ℕ) : Type 0 where
   pub ends : character feed ≡ 10
 
 -- behind any accepted tape, within the limit, the rows u add just the block b: behind a head they are a tape of b alone
-abbrev pub Alone : ℕ → List ℕ → Block → List ℕ → Type 0
-Alone e s b u = (cs : List Block) (g : List ℕ) → TapeOf e s cs g → length (g ++ u) ≤ limit → TapeOf e s (cs ++ (b ∷ [])) (g ++ u)
+abbrev pub Alone : ℕ → List ℕ → List ℕ → Block → List ℕ → Type 0
+Alone e s p b u = (cs : List Block) (g : List ℕ) → TapeOf e s p cs g → length (g ++ u) ≤ limit → TapeOf e s p (cs ++ (b ∷ [])) (g ++ u)
 
 -- a part for each block, to its own LF
-pub data Each (e : ℕ) (s : List ℕ) : List Block → List (List ℕ) → Type 0 where
-  none : Each e s [] []
-  more : {b : Block} {bs : List Block} {u : List ℕ} {us : List (List ℕ)} → Fed u → Alone e s b u → Each e s bs us → Each e s (b ∷ bs) (u ∷ us)
+pub data Each (e : ℕ) (s p : List ℕ) : List Block → List (List ℕ) → Type 0 where
+  none : Each e s p [] []
+  more : {b : Block} {bs : List Block} {u : List ℕ} {us : List (List ℕ)} → Fed u → Alone e s p b u → Each e s p bs us → Each e s p (b ∷ bs) (u ∷ us)
 
 -- rows one behind the other
 abbrev pub inRow : List (List ℕ) → List ℕ
@@ -33,13 +33,13 @@ inRow [] = []
 inRow (u ∷ us) = u ++ inRow us
 
 -- the head to its LF, the parts of the blocks without gap, and behind the last LF nothing that is kept; part n is what is handed back as the rows of block n
-pub record Parts (e : ℕ) (s : List ℕ) (bs : List Block) (t : List ℕ) : Type 0 where
+pub record Parts (e : ℕ) (s p : List ℕ) (bs : List Block) (t : List ℕ) : Type 0 where
   pub head : List ℕ
   pub parts : List (List ℕ)
   pub after : List ℕ
   pub joined : t ≡ head ++ (inRow parts ++ after)
-  pub heads : TapeOf e s [] head
+  pub heads : TapeOf e s p [] head
   pub fed : Fed head
-  pub each : Each e s bs parts
+  pub each : Each e s p bs parts
   pub blank : kept after ≡ []
-  pub handed : (n : ℕ) → n < length bs → rowsNumbered e s t n ≡ taken (getD parts n [])
+  pub handed : (n : ℕ) → n < length bs → rowsNumbered e s p t n ≡ taken (getD parts n [])
