@@ -11,7 +11,7 @@ use borrow.Author.Tests.{eq-eqb, ne-eqb, le-leb, lt-leb, lt-ltb, le-ltb}
 use Rattle.bytes.specs.Bytes.{indexOf, slice}
 use Rattle.rows.specs.Answer.{Answer, taken, refused, void, _>>=_, _>>_}
 use Rattle.shorthand.specs.declared.Format.{Format}
-use Rattle.shorthand.specs.Parse.{parsed}
+use Rattle.profile.specs.Answers.{agreed}
 use Rattle.reading.specs.Answers.{readUnder, sizeOf}
 use Rattle.lines.specs.Listing.{same, editionOf, headerEnd, noHeader, headerOf, most, listedUnder}
 
@@ -50,16 +50,16 @@ module _ (xs ys : List ℕ) (i : ℕ) where
 
 -- ---- the rows' limit
 
-module _ (e : ℕ) (s rows : List ℕ) where
-  pub within : length rows ≤ most → listedUnder e s rows ≡ readUnder e s rows
+module _ (e : ℕ) (s p rows : List ℕ) where
+  pub within : length rows ≤ most → listedUnder e s p rows ≡ readUnder e s p rows
   unfolding listedUnder readUnder
   within h = rw (le-leb (length rows) most h)
 
-  pub beyond : most < length rows → {a : Answer (Unit {0})} → a ≡ void (parsed e s) → sizeOf (listedUnder e s rows) ≡ (a >> refused 4 most)
+  pub beyond : most < length rows → {a : Answer (Unit {0})} → a ≡ void (agreed e s p) → sizeOf (listedUnder e s p rows) ≡ (a >> refused 4 most)
   unfolding listedUnder
-  beyond h {a} q = rw (lt-leb (length rows) most h, q) (cut (parsed e s))
+  beyond h {a} q = rw (lt-leb (length rows) most h, q) (cut (agreed e s p))
     where
-      cut : (p : Answer Format) → sizeOf (p >>= λ f. refused 4 most) ≡ (void p >> refused 4 most)
+      cut : (x : Answer Format) → sizeOf (x >>= λ f. refused 4 most) ≡ (void x >> refused 4 most)
       cut (taken f) = refl
       cut (refused n k) = refl
 

@@ -1,4 +1,4 @@
--- What the listing program writes for its whole input (document 01, "The listing program").
+-- What the listing program writes for a profile, its argument, and its whole input (documents 01, "The listing program", and 02, 2/12).
 use Prim.Native.Nat.{ℕ, _+_, _-_}
 use mathlib.Core.Bool.{Bool, true, false, _&&_, cond}
 use mathlib.Core.List.{List, [], _∷_, _++_}
@@ -8,7 +8,7 @@ use Rattle.bytes.specs.Bytes.{indexOf}
 use Rattle.rows.specs.Answer.{Answer, taken, refused, valueOr, _>>=_}
 use Rattle.shorthand.specs.declared.Format.{Format}
 use Rattle.shorthand.specs.Layout.{emptyFormat}
-use Rattle.shorthand.specs.Parse.{parsed}
+use Rattle.profile.specs.Answers.{agreed}
 use Rattle.reading.specs.Parse.{Entry}
 use Rattle.reading.specs.Answers.{read}
 use Rattle.text.specs.Text.{text}
@@ -48,7 +48,7 @@ shorthandOf input h = take (h .to - h .from) (drop (h .from) input)
 abbrev pub rowsOf : List ℕ → Header → List ℕ
 rowsOf input h = drop (h .rows) input
 
--- ---- the answer: 1, 2 and 3; 4 at 60,000 in its turn; and then as reading says
+-- ---- the answer: 1, 2 and 3, 22 and 23; 4 at 60,000 in its turn; and then as reading says
 
 abbrev pub most : ℕ
 most = 60000
@@ -56,8 +56,8 @@ most = 60000
 abbrev pub listed : Format → List ℕ → Answer (List Entry)
 listed f rows = cond (leb (length rows) most) (read f rows) (refused 4 most)
 
-unfoldable pub listedUnder : ℕ → List ℕ → List ℕ → Answer (List Entry)
-listedUnder e s rows = parsed e s >>= λ f. listed f rows
+unfoldable pub listedUnder : ℕ → List ℕ → List ℕ → List ℕ → Answer (List Entry)
+listedUnder e s p rows = agreed e s p >>= λ f. listed f rows
 
 -- ---- the text
 
@@ -70,9 +70,9 @@ abbrev pub printed : ℕ → Answer (List Entry) → List ℕ
 printed n (taken es) = blockLines n es ++ countLine (length es)
 printed n (refused m p) = refusalLine m p
 
--- all that the program writes
-unfoldable pub listing : List ℕ → List ℕ
-listing input =
+-- all that the program writes; a profile of no bytes is none
+unfoldable pub listing : List ℕ → List ℕ → List ℕ
+listing p input =
     let h = headerOf input in
     let s = shorthandOf input h in
-    printed (valueOr emptyFormat (parsed (h .edition) s) .sequence) (listedUnder (h .edition) s (rowsOf input h))
+    printed (valueOr emptyFormat (agreed (h .edition) s p) .sequence) (listedUnder (h .edition) s p (rowsOf input h))

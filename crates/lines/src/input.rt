@@ -79,14 +79,14 @@ pub fn read_header(input: &[u8]) -> Header
     }
 }
 
-// The number of blocks of an input's rows, or why they are not listed.
-pub fn count_listed(edition: u32, text: &[u8], tape: &[u8]) -> Counted
-    ensures { λ r. ⌜ countTold r ≡ sizeOf (listedUnder edition (now (text .entry)) (now (tape .entry))) ⌝ }
+// The number of blocks of an input's rows under a profile, or why they are not listed.
+pub fn count_listed(edition: u32, text: &[u8], profile: &[u8], tape: &[u8]) -> Counted
+    ensures { λ r. ⌜ countTold r ≡ sizeOf (listedUnder edition (now (text .entry)) (now (profile .entry)) (now (tape .entry))) ⌝ }
 {
     if tape.len() <= MOST {
-        return reading::count_blocks(edition, text, tape);
+        return reading::count_blocks(edition, text, profile, tape);
     }
-    let parsed = shorthand::parse(edition, text);
+    let parsed = profile::parse(edition, text, profile);
     let outcome = parsed.outcome;
     match outcome {
         Checked::Clean => Counted::Refused(Refusal {

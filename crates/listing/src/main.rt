@@ -1,5 +1,6 @@
 // Lists a tape: standard input holds the edition, a space, the shorthand, LF and the rows; the output is a line for each block and their count.
-// What it writes is made by `lines`; the proofs here are of safety alone.
+// The first argument, where there is one, is the profile; without one, or with an empty one, the program is document 01's.
+// What it writes is made by `lines`; the proofs of its functions are of safety alone.
 ghost use mathlib.Core.Path.{_≡_};
 ghost use lib.ListN.{length};
 ghost use mathlib.Core.List.{List};
@@ -7,7 +8,9 @@ ghost use Rattle.shorthand.specs.Facts.{Facts};
 ghost use Rattle.reading.specs.Parse.{Entry};
 ghost use Rattle.reading.specs.Answers.{countTold, sizeOf};
 ghost use Rattle.reading.specs.Remains.{Remains};
+ghost use Rattle.io.specs.Counts.{Counts};
 ghost use Rattle.lines.specs.Listing.{listedUnder};
+use libc::ENAMETOOLONG;
 use libc::STDIN_FILENO;
 use libc::STDOUT_FILENO;
 use lines::Printed;
@@ -26,6 +29,25 @@ fn input_space() -> [u8; 60201]
     ensures { λ r. ⌜ 60201 ≡ length r ⌝ }
 {
     [0; 60201]
+}
+
+// The bytes of the argument that are looked at. A profile in form has at most 10 bytes, so a longer text is out of form, and its first wrong byte is
+// among its first 11: the first 32 bytes of it are refused by 22 at the same place (`cut-argument` of proofs/Argument.antt, for every argument).
+fn argument_space() -> [u8; 32]
+    ensures { λ r. ⌜ 32 ≡ length r ⌝ }
+{
+    [0; 32]
+}
+
+// How many bytes of the buffer are the profile: none without an argument, and all where the argument is longer, since then its first bytes fill it.
+fn read_profile(buffer: &mut [u8]) -> usize
+    ensures { λ r. ⌜ Counts r (now (buffer .exit)) ⌝ }
+{
+    let n = os::arg(1, buffer);
+    if os::errno() == ENAMETOOLONG {
+        return buffer.len();
+    }
+    n
 }
 
 // The lines of so many blocks of an accepted tape from a row on, page by page.
@@ -49,13 +71,20 @@ fn write_pages(tape: &[u8], format: Format, first: usize, count: usize, out: &mu
 }
 
 // A refused tape has no lines but the last.
-fn write_blocks(edition: u32, text: &[u8], tape: &[u8], count: Counted, out: &mut [u8])
-    requires { ⌜ countTold count ≡ sizeOf (listedUnder edition (now text) (now tape)) ⌝ }
+fn write_blocks(
+    edition: u32,
+    text: &[u8],
+    profile: &[u8],
+    tape: &[u8],
+    count: Counted,
+    out: &mut [u8],
+)
+    requires { ⌜ countTold count ≡ sizeOf (listedUnder edition (now text) (now profile) (now tape)) ⌝ }
 {
     let Counted::Blocks(n) = count else {
         return;
     };
-    let parsed = shorthand::parse(edition, text);
+    let parsed = profile::parse(edition, text, profile);
     let outcome = parsed.outcome;
     let format = parsed.format;
     let Checked::Clean = outcome else {
@@ -76,7 +105,7 @@ fn write_last(count: Counted, out: &mut [u8]) {
     }
 }
 
-fn list_input(input: &[u8], out: &mut [u8]) {
+fn list_input(input: &[u8], profile: &[u8], out: &mut [u8]) {
     let header = read_header(input);
     let from = header.from;
     let to = header.to;
@@ -84,14 +113,16 @@ fn list_input(input: &[u8], out: &mut [u8]) {
     let edition = header.edition;
     let text = &input[from..to];
     let tape = &input[rows..];
-    let count = count_listed(edition, text, tape);
-    write_blocks(edition, text, tape, count, out);
+    let count = count_listed(edition, text, profile, tape);
+    write_blocks(edition, text, profile, tape, count, out);
     write_last(count, out);
 }
 
 fn main() {
     let mut space = input_space();
+    let mut argument = argument_space();
     let mut out = io::large_buffer();
+    let size = read_profile(&mut argument);
     let n = io::read_full(STDIN_FILENO, &mut space);
-    list_input(&space[..n], &mut out);
+    list_input(&space[..n], &argument[..size], &mut out);
 }

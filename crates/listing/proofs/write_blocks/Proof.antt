@@ -6,7 +6,7 @@ use Rattle.rows.specs.Answer.{told}
 use Rattle.parts.specs.Front.{endTold}
 use Rattle.reading.specs.Answers.{countTold}
 use Rattle.reading.proofs.BlockWalk.{enters-at}
-use Rattle.reading.proofs.Numbered.{parsed-facts}
+use Rattle.reading.proofs.Numbered.{settled-facts}
 use Rattle.lines.proofs.Listed.{counted-remains}
 use borrow.Author.Needs.{needs}
 use Rattle.listing.proofs.write_blocks.Statement.{statement}
@@ -46,13 +46,13 @@ returns-3 : tie.Need-returns-3
 returns-3 c = search needs
 
 add-write-pages : tie.Need-add-write-pages
-add-write-pages c = omega (arith, enters-at (now (c .before .before .before .before .before .before .before .before .before .before .before .before .before .before .args .tape)) _ _ (sym (c .before .before .before .enter-tape .ensures) ∙ ap (endTold _) (c .before .lf .given .1)) .0)
+add-write-pages c = omega (arith, enters-at (now (c .before .before .before .before .before .before .before .before .before .before .before .before .before .before .before .args .tape)) _ _ (sym (c .before .before .before .enter-tape .ensures) ∙ ap (endTold _) (c .before .lf .given .1)) .0)
 
 write-pages-requires : tie.Need-write-pages-requires
 write-pages-requires c κs =
     let clean = sym (c .before .before .before .before .before .before .before .before .parse .ensures .0) ∙ ap told (c .before .before .before .before .before .enum-told2 .given .1) in (
-      parsed-facts _ _ _ (c .before .before .before .before .before .before .before .before .parse .ensures .1) clean,
-      counted-remains _ _ _ _ (sym (ap countTold (c .before .before .before .before .before .before .before .before .before .before .count .given .1)) ∙ c .before .before .before .before .before .before .before .before .before .before .before .before .before .before .before .pre) _ (c .before .before .before .before .before .before .before .before .parse .ensures .1) clean _ _
+      settled-facts _ _ _ _ (c .before .before .before .before .before .before .before .before .parse .ensures .1) clean,
+      counted-remains _ _ _ _ _ (sym (ap countTold (c .before .before .before .before .before .before .before .before .before .before .count .given .1)) ∙ c .before .before .before .before .before .before .before .before .before .before .before .before .before .before .before .before .pre) _ (c .before .before .before .before .before .before .before .before .parse .ensures .1) clean _ _
           (sym (c .before .before .before .before .enter-tape .ensures) ∙ ap (endTold _) (c .before .before .lf .given .1)),
     )
 

@@ -1,0 +1,2 @@
+-- The law of the program's argument.
+pub mod Argument
