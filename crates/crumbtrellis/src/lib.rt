@@ -75,20 +75,21 @@ fn tell_rows(answer: Punched) -> Reply
     }
 }
 
-// The number of blocks of a tape.
+// The number of blocks of a tape. A profile of no bytes is none.
 #[no_mangle]
 pub extern "C" fn crumbtrellis_count_blocks(
     edition: u32,
     shorthand: &[u8],
+    profile: &[u8],
     tape: &[u8],
     place: &mut u64,
     value: &mut u64,
 ) -> u32
-    ensures number { λ r. ⌜ r ≡ numberOf (counted edition (now (shorthand .entry)) (now (tape .entry))) ⌝ }
-    ensures place { λ r. ⌜ now (place .exit) ≡ placeOf (counted edition (now (shorthand .entry)) (now (tape .entry))) ⌝ }
-    ensures value { λ r. ⌜ now (value .exit) ≡ valueOr 0 (counted edition (now (shorthand .entry)) (now (tape .entry))) ⌝ }
+    ensures number { λ r. ⌜ r ≡ numberOf (counted edition (now (shorthand .entry)) (now (profile .entry)) (now (tape .entry))) ⌝ }
+    ensures place { λ r. ⌜ now (place .exit) ≡ placeOf (counted edition (now (shorthand .entry)) (now (profile .entry)) (now (tape .entry))) ⌝ }
+    ensures value { λ r. ⌜ now (value .exit) ≡ valueOr 0 (counted edition (now (shorthand .entry)) (now (profile .entry)) (now (tape .entry))) ⌝ }
 {
-    let reply = tell_count(reading::count_blocks(edition, shorthand, tape));
+    let reply = tell_count(reading::count_blocks(edition, shorthand, profile, tape));
     *place = reply.place;
     *value = reply.value;
     reply.number
