@@ -20,6 +20,13 @@ struct Spelt {
     more: usize,
 }
 
+// Where a shorthand ends, and where the profile behind it begins and ends; all three are one place where it has none.
+struct Bounds {
+    shorthand: usize,
+    profile: usize,
+    end: usize,
+}
+
 // What stands before the first space.
 pub fn part(text: &[u8]) -> &[u8] {
     let space = bytes::scan::find(text, 0, text.len(), b' ');
@@ -33,6 +40,53 @@ pub fn rest(text: &[u8]) -> &[u8] {
         return &text[space + 1..];
     }
     &text[space..]
+}
+
+// A shorthand ends at the first space or bar. What stands behind a bar, up to the next one, is its profile.
+fn split(text: &[u8]) -> Bounds
+    ensures { λ r. ⌜ (r .shorthand ≤ length (now (text .entry))) × (r .profile ≤ r .end) × (r .end ≤ length (now (text .entry))) ⌝ }
+{
+    let space = bytes::scan::find(text, 0, text.len(), b' ');
+    let shorthand = bytes::scan::find(text, 0, space, b'|');
+    if space <= shorthand {
+        return Bounds {
+            shorthand,
+            profile: shorthand,
+            end: shorthand,
+        };
+    }
+    let profile = shorthand + 1;
+    let end = bytes::scan::find(text, profile, text.len(), b'|');
+    Bounds {
+        shorthand,
+        profile,
+        end,
+    }
+}
+
+// The shorthand behind the edition.
+pub fn shorthand_of(asked: &[u8]) -> &[u8] {
+    let text = rest(asked);
+    let bounds = split(text);
+    let end = bounds.shorthand;
+    &text[0..end]
+}
+
+// The profile behind the shorthand, empty where there is none.
+pub fn profile_of(asked: &[u8]) -> &[u8] {
+    let text = rest(asked);
+    let bounds = split(text);
+    let from = bounds.profile;
+    let end = bounds.end;
+    &text[from..end]
+}
+
+// What stands behind edition, shorthand and profile.
+pub fn behind_profile(asked: &[u8]) -> &[u8] {
+    let text = rest(asked);
+    let bounds = split(text);
+    let end = bounds.end;
+    rest(&text[end..])
 }
 
 // Where the next part begins.

@@ -5,13 +5,15 @@ use crate::answers::put_number;
 use crate::answers::put_refused;
 use crate::answers::put_rows;
 use crate::answers::put_value;
+use crate::asked::behind_profile;
 use crate::asked::fill;
 use crate::asked::narrow;
 use crate::asked::number;
-use crate::asked::part;
+use crate::asked::profile_of;
 use crate::asked::rest;
 use crate::asked::room_in;
 use crate::asked::rows_of;
+use crate::asked::shorthand_of;
 use crate::asked::text_of;
 use lines::Printed;
 use reading::Counted;
@@ -30,12 +32,16 @@ pub fn header(asked: &[u8], input: &mut [u8], out: &mut [u8], at: usize) -> usiz
 
 // L: the number of blocks that are listed.
 pub fn listed(asked: &[u8], tape: &mut [u8], out: &mut [u8], at: usize) -> usize {
-    let text = rest(asked);
-    let n = rows_of(rest(text), tape);
+    let n = rows_of(behind_profile(asked), tape);
     put_counted(
         out,
         at,
-        lines::input::count_listed(narrow(asked), part(text), &tape[0..n]),
+        lines::input::count_listed(
+            narrow(asked),
+            shorthand_of(asked),
+            profile_of(asked),
+            &tape[0..n],
+        ),
     )
 }
 

@@ -51,6 +51,7 @@ fn answer_reading(
         b'C' => speed_cases::code(asked, out, at),
         b'X' => speed_cases::exact(asked, out, at),
         b'F' => shorthand_cases::format(asked, out, at),
+        b'G' => shorthand_cases::agreed(asked, out, at),
         b'B' => block_cases::count(asked, tape, out, at),
         b'W' => block_cases::block(asked, tape, out, at),
         b'P' => block_cases::part_of(asked, tape, out, at),

@@ -7,14 +7,18 @@ use crate::answers::put_number;
 use crate::answers::put_refused;
 use crate::answers::put_rows;
 use crate::answers::put_value;
+use crate::asked::behind_profile;
 use crate::asked::fill;
 use crate::asked::integer;
 use crate::asked::narrow;
 use crate::asked::number;
-use crate::asked::part;
+use crate::asked::profile_of;
 use crate::asked::rest;
 use crate::asked::room_in;
 use crate::asked::rows_of;
+use crate::asked::shorthand_of;
+use crate::block_cases::count_under;
+use crate::block_cases::read_under;
 use crate::records::record_of;
 use punching::Punched;
 use reading::Block;
@@ -42,49 +46,39 @@ pub fn head(asked: &[u8], buffer: &mut [u8], out: &mut [u8], at: usize) -> usize
     put_punched(out, at, answer, &buffer[0..room])
 }
 
-// A record, into a buffer that is lent whole.
-fn punch(
-    edition: u32,
-    text: &[u8],
-    block: Block,
-    buffer: &mut [u8],
-    out: &mut [u8],
-    at: usize,
-) -> usize {
-    let answer = punching::punch_block(edition, text, block, buffer);
-    put_punched(out, at, answer, buffer)
+// A record under the edition, the shorthand and the profile that are asked.
+fn punch_under(asked: &[u8], block: Block, buffer: &mut [u8]) -> Punched {
+    punching::punch_block(
+        narrow(asked),
+        shorthand_of(asked),
+        profile_of(asked),
+        block,
+        buffer,
+    )
 }
 
 // J: a record.
 pub fn record(asked: &[u8], buffer: &mut [u8], out: &mut [u8], at: usize) -> usize {
-    let text = rest(asked);
-    let lent = rest(text);
+    let lent = behind_profile(asked);
     let first = rest(lent);
     let room = room_in(buffer, lent);
     fill(&mut buffer[0..room], number(first), 1);
     let block = record_of(rest(first));
-    punch(
-        narrow(asked),
-        part(text),
-        block,
-        &mut buffer[0..room],
-        out,
-        at,
-    )
+    let answer = punch_under(asked, block, &mut buffer[0..room]);
+    put_punched(out, at, answer, &buffer[0..room])
 }
 
 // D: block n of a tape.
 pub fn again(asked: &[u8], tape: &mut [u8], buffer: &mut [u8], out: &mut [u8], at: usize) -> usize {
-    let edition = narrow(asked);
-    let text = rest(asked);
-    let lent = rest(text);
+    let lent = behind_profile(asked);
     let wanted = rest(lent);
     let n = rows_of(rest(wanted), tape);
-    let read = reading::read_block(edition, part(text), &tape[0..n], number(wanted) as usize);
+    let read = read_under(asked, &tape[0..n], number(wanted) as usize);
     let block = read.block;
     let room = room_in(buffer, lent);
     fill(&mut buffer[0..room], 0, 0);
-    punch(edition, part(text), block, &mut buffer[0..room], out, at)
+    let answer = punch_under(asked, block, &mut buffer[0..room]);
+    put_punched(out, at, answer, &buffer[0..room])
 }
 
 // As many rows as were punched, if they are within the room.
@@ -98,17 +92,17 @@ fn rows_punched(answer: Punched, room: usize) -> usize
 }
 
 // A block punched at a place; answers the place behind it.
-fn punch_at(edition: u32, text: &[u8], block: Block, punched: &mut [u8], at: usize) -> usize
+fn punch_at(asked: &[u8], block: Block, punched: &mut [u8], at: usize) -> usize
     requires { ⌜ at ≤ length (now punched) ⌝ }
     ensures { λ r. ⌜ r ≤ length (now (punched .exit)) ⌝ }
 {
     let room = punched.len() - at;
-    let answer = punching::punch_block(edition, text, block, &mut punched[at..]);
+    let answer = punch_under(asked, block, &mut punched[at..]);
     at + rows_punched(answer, room)
 }
 
 // A head, and behind it at most 100 blocks of a tape; answers the rows punched.
-fn punch_all(edition: u32, text: &[u8], tape: &[u8], punched: &mut [u8]) -> usize
+fn punch_all(asked: &[u8], tape: &[u8], punched: &mut [u8]) -> usize
     ensures { λ r. ⌜ r ≤ length (now (punched .exit)) ⌝ }
 {
     let room = punched.len();
@@ -116,14 +110,14 @@ fn punch_all(edition: u32, text: &[u8], tape: &[u8], punched: &mut [u8]) -> usiz
     let mut at = rows_punched(answer, room);
     let mut n: usize = 0;
     while n < 100 {
-        let read = reading::read_block(edition, text, tape, n);
+        let read = read_under(asked, tape, n);
         n += 1;
         let block = read.block;
         let outcome = read.outcome;
         if let Checked::Refused(_) = outcome {
             return at;
         }
-        at = punch_at(edition, text, block, punched, at);
+        at = punch_at(asked, block, punched, at);
     }
     at
 }
@@ -136,15 +130,9 @@ pub fn round(
     out: &mut [u8],
     at: usize,
 ) -> usize {
-    let edition = narrow(asked);
-    let text = rest(asked);
-    let n = rows_of(rest(text), tape);
-    let m = punch_all(edition, part(text), &tape[0..n], punched);
-    let next = put_counted(
-        out,
-        at,
-        reading::count_blocks(edition, part(text), &punched[0..m]),
-    );
+    let n = rows_of(behind_profile(asked), tape);
+    let m = punch_all(asked, &tape[0..n], punched);
+    let next = put_counted(out, at, count_under(asked, &punched[0..m]));
     put_rows(out, next, &punched[0..m])
 }
 

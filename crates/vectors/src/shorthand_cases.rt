@@ -5,13 +5,16 @@ use crate::answers::put_checked;
 use crate::answers::put_decimal;
 use crate::answers::put_number;
 use crate::asked::narrow;
+use crate::asked::profile_of;
 use crate::asked::rest;
+use crate::asked::shorthand_of;
 use shorthand::Figures;
 use shorthand::Format;
 use shorthand::Item;
 use shorthand::Kind;
 use shorthand::Mark;
 use shorthand::Missing;
+use shorthand::Parsed;
 
 fn put_mark(out: &mut [u8], at: usize, mark: Mark) -> usize {
     match mark {
@@ -72,21 +75,34 @@ fn put_items(out: &mut [u8], start: usize, format: Format) -> usize {
     at
 }
 
-fn put_dots(out: &mut [u8], at: usize, dots: bool) -> usize {
-    if dots {
+fn put_dots(out: &mut [u8], at: usize, dots: bool, addresses: bool) -> usize {
+    if !dots {
+        return put_all(out, at, b" plain");
+    }
+    if addresses {
         return put_all(out, at, b" dots");
     }
-    put_all(out, at, b" plain")
+    put_all(out, at, b" tabs")
+}
+
+fn put_parsed(out: &mut [u8], at: usize, parsed: Parsed) -> usize {
+    let outcome = parsed.outcome;
+    let format = parsed.format;
+    let sequence = put_checked(out, at, outcome);
+    let dots = put_number(out, sequence, format.sequence as u64);
+    let count = put_dots(out, dots, format.dots, format.addresses);
+    let items = put_number(out, count, format.count as u64);
+    put_items(out, items, format)
 }
 
 // F: the Format of a shorthand under an edition.
 pub fn format(asked: &[u8], out: &mut [u8], at: usize) -> usize {
     let parsed = shorthand::parse(narrow(asked), rest(asked));
-    let outcome = parsed.outcome;
-    let format = parsed.format;
-    let sequence = put_checked(out, at, outcome);
-    let dots = put_number(out, sequence, format.sequence as u64);
-    let count = put_dots(out, dots, format.dots);
-    let items = put_number(out, count, format.count as u64);
-    put_items(out, items, format)
+    put_parsed(out, at, parsed)
+}
+
+// G: the Format of a shorthand and a profile under an edition.
+pub fn agreed(asked: &[u8], out: &mut [u8], at: usize) -> usize {
+    let parsed = profile::parse(narrow(asked), shorthand_of(asked), profile_of(asked));
+    put_parsed(out, at, parsed)
 }

@@ -7,10 +7,10 @@ use Rattle.vectors.proofs.punch_cases.punch_all.Statement.{statement}
 use Rattle.vectors.proofs.punch_cases.punch_all.Tie as tie
 
 abbrev Inv-loop : tie.InvT-loop
-Inv-loop edition text tape punched₀ room at₀ n₀ punched at n = (at ≤ length punched) × (n ≤ 100) × (length punched ≡ length punched₀)
+Inv-loop asked tape punched₀ room at₀ n₀ punched at n = (at ≤ length punched) × (n ≤ 100) × (length punched ≡ length punched₀)
 
 abbrev μ-loop : tie.MeasureT-loop
-μ-loop edition text tape punched₀ room at₀ n₀ punched at n = 100 - n
+μ-loop asked tape punched₀ room at₀ n₀ punched at n = 100 - n
 
 pub punch-all-spec : {M : Type 1} → statement M
 punch-all-spec =
