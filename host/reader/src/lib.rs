@@ -7,21 +7,24 @@
 #![warn(missing_docs)]
 
 pub mod listing;
+pub mod profile;
 pub mod punching;
 pub mod reading;
 pub mod rows;
 pub mod shorthand;
+pub mod specification;
 pub mod speeds;
 pub mod trial;
 
+use specification::Specification;
 use std::fmt;
 
 /// A refusal by its number in the rules, and its place.
 #[derive(Clone, Copy, Debug, PartialEq, Eq)]
 pub struct Refusal {
-    /// 1 to 21
+    /// 1 to 23
     pub number: u32,
-    /// a row, a byte of the shorthand, or what the table of refusals says
+    /// a row, a byte of the shorthand or profile, or what the table of refusals says
     pub place: u64,
 }
 
@@ -38,15 +41,14 @@ impl fmt::Display for Refusal {
     }
 }
 
-/// How many blocks stand on `tape`, judged by `edition` and `shorthand`.
-pub fn count_blocks(edition: u32, shorthand: &[u8], tape: &[u8]) -> Result<u64, Refusal> {
-    let format = shorthand::parse(edition, shorthand)?;
+/// How many blocks stand on `tape`, judged by `specification`.
+pub fn count_blocks(specification: &Specification, tape: &[u8]) -> Result<u64, Refusal> {
     let mut count = reading::Count::default();
-    reading::read(&format, tape, &mut count)?;
+    reading::read(&specification.format()?, tape, &mut count)?;
     Ok(count.blocks)
 }
 
-/// Punches the block of `record` into `buffer` by `edition` and `shorthand`, and answers how many rows it has.
-pub fn punch_block(edition: u32, shorthand: &[u8], record: &punching::Record, buffer: &mut [u8]) -> Result<u64, Refusal> {
-    punching::punch_block(&shorthand::parse(edition, shorthand)?, record, buffer)
+/// Punches the block of `record` into `buffer` by `specification`, and answers how many rows it has.
+pub fn punch_block(specification: &Specification, record: &punching::Record, buffer: &mut [u8]) -> Result<u64, Refusal> {
+    punching::punch_block(&specification.format()?, record, buffer)
 }

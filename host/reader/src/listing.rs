@@ -1,7 +1,8 @@
 //! The listing: what the listing program prints for what stands on its standard input.
 
 use crate::reading::{self, Block, Value};
-use crate::shorthand::{self, Format};
+use crate::shorthand::Format;
+use crate::specification::Specification;
 use crate::Refusal;
 use std::fmt::Write;
 
@@ -10,9 +11,9 @@ const HEADER: usize = 200;
 /// The most rows that the listing program takes.
 const MOST_ROWS: usize = 60_000;
 
-/// The whole output for `input`.
-pub fn listing(input: &[u8]) -> String {
-    match blocks(input) {
+/// The whole output for `input` on the standard input, and `profile` as the first argument; no bytes where there is none.
+pub fn listing(input: &[u8], profile: &[u8]) -> String {
+    match blocks(input, profile) {
         Ok((format, blocks)) => text(format.sequence, &blocks),
         Err(refusal) => format!("{refusal}\n"),
     }
@@ -41,9 +42,9 @@ fn line(text: &mut String, digits: usize, block: &Block) {
     text.push('\n');
 }
 
-fn blocks(input: &[u8]) -> Result<(Format, Vec<Block>), Refusal> {
+fn blocks(input: &[u8], profile: &[u8]) -> Result<(Format, Vec<Block>), Refusal> {
     let (edition, shorthand, rows) = header(input).ok_or(Refusal::new(1, 0))?;
-    let format = shorthand::parse(edition, shorthand)?;
+    let format = Specification::new(edition, shorthand, profile).format()?;
     if rows.len() > MOST_ROWS {
         return Err(Refusal::new(4, MOST_ROWS));
     }
@@ -72,6 +73,11 @@ mod tests {
 
     fn input(header: &str, text: &str) -> Vec<u8> {
         header.bytes().chain(text.bytes().map(punched)).collect()
+    }
+
+    /// The output without a profile.
+    fn listing(input: &[u8]) -> String {
+        super::listing(input, b"")
     }
 
     #[test]
@@ -112,5 +118,28 @@ mod tests {
         assert_eq!(listing(&most), "refused 4 60000\n");
         most[6] = b'2';
         assert_eq!(listing(&most), "refused 2 0\n");
+    }
+
+    #[test]
+    fn without_addresses() {
+        let header = "2539 N3.G2.X+042*\n";
+        let list = |text, profile: &str| super::listing(&input(header, text), profile.as_bytes());
+        let text = "%\nN001\t01\t5\nN002\t\t-0\nN003\t\t\n";
+        assert_eq!(list(text, "LTM110A"), "N 001 - G1 X5\nN 002 - X0\nN 003 -\nblocks 3\n");
+        assert_eq!(list(text, ""), "refused 10 7\n");
+        assert_eq!(list(text, "LSM110A"), "refused 10 7\n");
+        assert_eq!(list(text, "LTM110"), "refused 22 6\n");
+        assert_eq!(list(text, "LTM111I"), "refused 23 0\n");
+    }
+
+    #[test]
+    fn the_profile_is_judged_before_the_rows() {
+        let mut most = input("2539 N3*\n", "");
+        most.resize(9 + MOST_ROWS + 1, 1);
+        assert_eq!(super::listing(&most, b"LTM000A"), "refused 4 60000\n");
+        assert_eq!(super::listing(&most, b"LTM111A"), "refused 23 0\n");
+        assert_eq!(super::listing(&most, b"LTM"), "refused 22 3\n");
+        assert_eq!(super::listing(b"2539 N3\n", b"LTM"), "refused 2 2\n");
+        assert_eq!(super::listing(b"2538 N3*\n", b"LTM"), "refused 1 0\n");
     }
 }

@@ -2,7 +2,7 @@
 
 use crate::reading::{Block, Opening, Value};
 use crate::rows::{punched, HT, LF};
-use crate::shorthand::{Format, Item, Kind, Sign};
+use crate::shorthand::{Format, Item, Kind, Layout, Sign};
 use crate::speeds;
 use crate::Refusal;
 
@@ -68,25 +68,24 @@ fn block(format: &Format, record: &Record) -> Result<Vec<u8>, Refusal> {
     let mut due = format.items.iter();
     for (at, &(letter, value)) in words.iter().enumerate() {
         let refused = |number| Refusal::new(number, at + 1);
-        let item = step_to(&mut text, format.tabs, &mut due, letter).ok_or(refused(16))?;
-        text.push(letter);
+        let item = step_to(&mut text, format.layout, &mut due, letter).ok_or(refused(16))?;
         data(&mut text, item, value).map_err(refused)?;
     }
     text.push(LF);
     Ok(text)
 }
 
-/// The item of `letter` among those still due, with a tab for it and for each that is passed over.
-fn step_to<'f>(text: &mut Vec<u8>, tabs: bool, due: &mut impl Iterator<Item = &'f Item>, letter: u8) -> Option<&'f Item> {
-    due.find(|item| {
-        if tabs {
-            text.push(HT);
-        }
+/// The item of `letter` among those still due. Tabs are for it and for each that is passed over; then its address.
+fn step_to<'f>(text: &mut Vec<u8>, layout: Layout, due: &mut impl Iterator<Item = &'f Item>, letter: u8) -> Option<&'f Item> {
+    let item = due.find(|item| {
+        text.extend(layout.has_tabs().then_some(HT));
         item.letter == letter
-    })
+    })?;
+    text.extend(layout.has_addresses().then_some(letter));
+    Some(item)
 }
 
-/// What stands behind the address, or the number of the refusal.
+/// The sign and the digits of a word, or the number of the refusal.
 fn data(text: &mut Vec<u8>, item: &Item, value: Value) -> Result<(), u32> {
     let number = match (item.kind, value) {
         (Kind::Plain, Value::Plain(number)) => number,
@@ -115,6 +114,7 @@ mod tests {
     use super::*;
     use crate::reading;
     use crate::shorthand;
+    use crate::specification::Specification;
 
     const PLAIN: &str = "N3.G2.X+42.F3.M2*";
 
@@ -125,8 +125,12 @@ mod tests {
 
     /// What is punched into a buffer with room, or number and place.
     fn answer(edition: u32, text: &str, record: &Record) -> Result<String, (u32, u64)> {
+        judged(&Specification::new(edition, text, ""), record)
+    }
+
+    fn judged(specification: &Specification, record: &Record) -> Result<String, (u32, u64)> {
         let mut buffer = vec![1; 500];
-        match crate::punch_block(edition, text.as_bytes(), record, &mut buffer) {
+        match crate::punch_block(specification, record, &mut buffer) {
             Ok(rows) => {
                 assert!(buffer[rows as usize..].iter().all(|&row| row == 1));
                 let characters = buffer[..rows as usize].iter().map(|&row| {
@@ -276,6 +280,40 @@ mod tests {
         assert_eq!(answer(1057, "N3.G2*", &handed), Err((17, 0)));
         assert_eq!(answer(1057, "N3.G2*", &record(1, &[g, z])), Err((17, 1)));
         assert_eq!(answer(1057, "N3.G2*", &record(1, &[z, g])), Err((16, 1)));
+    }
+
+    #[test]
+    fn a_profile_is_judged_before_the_record() {
+        let mut handed = record(1_000, &[(b'Z', Value::Plain(1))]);
+        handed.count = 23;
+        let refused = |shorthand, profile| judged(&Specification::new(1057, shorthand, profile), &handed).unwrap_err();
+        assert_eq!(refused("N3G2*", "IPM11"), (3, 2));
+        assert_eq!(refused("N3.X42*", "IPM11"), (22, 5));
+        assert_eq!(refused("N3.X42*", "IPM121"), (23, 0));
+        assert_eq!(refused("N3.X42*", "IPM111"), (16, 23));
+    }
+
+    #[test]
+    fn tabs_and_no_addresses() {
+        let specification = Specification::new(2539, "N3.G2.X+042.Y420.F3.M2*", "LTM221A");
+        let punched = |words: &[Word]| judged(&specification, &record(1, words));
+        let (g, x, m) = ((b'G', Value::Plain(1)), (b'X', Value::Dimension(0)), (b'M', Value::Plain(2)));
+        assert_eq!(punched(&[]), Ok("N001\n".into()));
+        assert_eq!(punched(&[g]), Ok("N001\t01\n".into()));
+        // all digits, and a sign in every signed item
+        assert_eq!(punched(&[x]), Ok("N001\t\t+000000\n".into()));
+        assert_eq!(punched(&[g, (b'X', Value::Dimension(-5)), m]), Ok("N001\t01\t-000005\t\t\t02\n".into()));
+        let (y, f) = ((b'Y', Value::Dimension(500_000)), (b'F', Value::Speed(1_500_000_000)));
+        assert_eq!(punched(&[y, f]), Ok("N001\t\t\t500000\t615\n".into()));
+        // the letter is the item's all the same
+        assert_eq!(punched(&[x, g]), Err((16, 2)));
+        assert_eq!(punched(&[(b'Z', Value::Dimension(0))]), Err((16, 1)));
+        assert_eq!(punched(&[(b'Y', Value::Dimension(-1))]), Err((17, 1)));
+        assert_eq!(punched(&[g, (b'F', Value::Speed(999))]), Err((18, 2)));
+        let mut buffer = [7; 8];
+        assert_eq!(crate::punch_block(&specification, &record(1, &[m]), &mut buffer), Err(Refusal::new(19, 12)));
+        assert_eq!(crate::punch_block(&specification, &record(1, &[g]), &mut buffer), Ok(8));
+        assert_eq!(buffer, [78, 48, 48, 177, 9, 48, 177, 10]);
     }
 
     #[test]

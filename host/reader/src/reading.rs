@@ -1,7 +1,7 @@
 //! Reading a tape: the four stages, and the blocks handed to a visitor as they are found.
 
 use crate::rows::{self, CR, DEL, HT, LF, NUL};
-use crate::shorthand::{Dropped, Format, Item, Kind, Sign};
+use crate::shorthand::{Dropped, Format, Item, Kind, Layout, Sign};
 use crate::speeds;
 use crate::Refusal;
 
@@ -229,10 +229,10 @@ impl<'t> Reader<'t> {
         self.step();
         let (sequence, _) = self.digits(format.sequence, format.sequence, 9)?;
         visitor.block(Opening { skip, alignment, sequence });
-        if format.tabs {
-            self.tabbed_words(format, visitor)?;
-        } else {
-            self.words(format, visitor)?;
+        match format.layout {
+            Layout::Addresses => self.words(format, visitor)?,
+            Layout::Both => self.tabbed_words(format, visitor)?,
+            Layout::Tabs => self.words_without_addresses(format, visitor)?,
         }
         self.end(visitor)
     }
@@ -245,6 +245,21 @@ impl<'t> Reader<'t> {
             self.step();
             if self.here() == Some(item.letter) {
                 visitor.word(item.letter, self.word(item)?);
+            }
+        }
+        Ok(())
+    }
+
+    /// Each tab steps to the next item; the digits of its word follow, with a sign or not, or nothing. Merged into `block` it
+    /// would slow the two others down.
+    #[inline(never)]
+    fn words_without_addresses<V: Visitor>(&mut self, format: &Format, visitor: &mut V) -> Result<(), Refusal> {
+        let mut due = format.items.iter();
+        while self.here() == Some(HT) {
+            let item = due.next().ok_or_else(|| self.wrong(10))?;
+            self.step();
+            if matches!(self.here(), Some(b'0'..=b'9' | b'+' | b'-')) {
+                visitor.word(item.letter, self.data(item, self.place)?);
             }
         }
         Ok(())
@@ -284,6 +299,13 @@ impl<'t> Reader<'t> {
     fn word(&mut self, item: &Item) -> Result<Value, Refusal> {
         let address = self.place;
         self.step();
+        self.data(item, address)
+    }
+
+    /// The sign and digits of `item`, in a word that began at `beginning`: at its address or, without one, here. A speed
+    /// has no sign, so that this is then its first digit.
+    #[inline]
+    fn data(&mut self, item: &Item, beginning: usize) -> Result<Value, Refusal> {
         let signed = matches!(self.here(), Some(b'+' | b'-'));
         let minus = self.here() == Some(b'-');
         match (item.sign, signed) {
@@ -295,7 +317,7 @@ impl<'t> Reader<'t> {
         let dimension = |number: u64| if minus { -(number as i64) } else { number as i64 };
         Ok(match item.kind {
             Kind::Plain => Value::Plain(number),
-            Kind::Speed => Value::Speed(speeds::units(item.most, number).ok_or(Refusal::new(13, address))?),
+            Kind::Speed => Value::Speed(speeds::units(item.most, number).ok_or(Refusal::new(13, beginning))?),
             Kind::Dimension { dropped: Dropped::Trailing, .. } => {
                 Value::Dimension(dimension(number * 10u64.pow(item.most - count)))
             }
@@ -326,6 +348,7 @@ impl<'t> Reader<'t> {
 mod tests {
     use super::*;
     use crate::rows::punched;
+    use crate::specification::Specification;
     use crate::{count_blocks, shorthand};
 
     const PLAIN: &str = "N3.G2.X+42.F3.M2*";
@@ -336,7 +359,11 @@ mod tests {
 
     /// The number and place of the answer, with the count for a place where it is 0.
     fn answer(edition: u32, shorthand: &str, text: &str) -> (u32, u64) {
-        match count_blocks(edition, shorthand.as_bytes(), &tape(text)) {
+        judged(&Specification::new(edition, shorthand, ""), text)
+    }
+
+    fn judged(specification: &Specification, text: &str) -> (u32, u64) {
+        match count_blocks(specification, &tape(text)) {
             Ok(count) => (0, count),
             Err(refusal) => (refusal.number, refusal.place),
         }
@@ -472,12 +499,92 @@ mod tests {
     #[test]
     fn a_later_stage_waits_for_the_earlier_one() {
         let mut rows = tape("X(");
-        assert_eq!(count_blocks(1057, PLAIN.as_bytes(), &rows), Err(Refusal::new(7, 1)));
+        let count = |shorthand, profile, rows: &[u8]| count_blocks(&Specification::new(1057, shorthand, profile), rows);
+        assert_eq!(count(PLAIN, "", &rows), Err(Refusal::new(7, 1)));
         rows.push(33);
-        assert_eq!(count_blocks(1057, PLAIN.as_bytes(), &rows), Err(Refusal::new(6, 2)));
+        assert_eq!(count(PLAIN, "", &rows), Err(Refusal::new(6, 2)));
         rows.push(1);
-        assert_eq!(count_blocks(1057, PLAIN.as_bytes(), &rows), Err(Refusal::new(5, 3)));
-        assert_eq!(count_blocks(1057, b"N", &rows), Err(Refusal::new(2, 1)));
-        assert_eq!(count_blocks(0, b"N", &rows), Err(Refusal::new(1, 0)));
+        assert_eq!(count(PLAIN, "", &rows), Err(Refusal::new(5, 3)));
+        rows.resize(rows::MOST_ROWS + 1, 0);
+        assert_eq!(count(PLAIN, "IPM111", &rows), Err(Refusal::new(4, rows::MOST_ROWS)));
+        assert_eq!(count(PLAIN, "IPM121", &rows), Err(Refusal::new(23, 0)));
+        assert_eq!(count(PLAIN, "IPM12", &rows), Err(Refusal::new(22, 5)));
+        assert_eq!(count("N", "IPM12", &rows), Err(Refusal::new(2, 1)));
+        assert_eq!(count_blocks(&Specification::new(0, "N", "IPM12"), &rows), Err(Refusal::new(1, 0)));
+    }
+
+    /// Words known by their tabs alone: G, a signed X without its leading zeros, Y without a sign, F and T.
+    fn by_tab(text: &str) -> (u32, u64) {
+        judged(&Specification::new(2539, "N3.G2.X+042.Y42.F3.T1*", "LTM221A"), &format!("%\n{text}"))
+    }
+
+    #[test]
+    fn the_worked_cases_without_addresses() {
+        let worked = |text| judged(&Specification::new(2539, "N3.G2.X+042*", "LTM110A"), text);
+        assert_eq!(worked("%\nN001\t01\t5\nN002\t\t-0\nN003\t\t\n"), (0, 3));
+        assert_eq!(worked("%\nN004\tG01\n"), (10, 7));
+        assert_eq!(worked("%\nN005\t+01\n"), (12, 7));
+    }
+
+    #[test]
+    fn words_by_their_tabs() {
+        let format = Specification::new(2539, "N3.G2.X+042.E3.ID420*", "LTM110B").format().unwrap();
+        let mut blocks = Vec::new();
+        read(&format, &tape("%\nN001\t01\t-\05\t615\t-5\r\n:002\t\t(A\n)+000012\t000\n/N003\t\t0\n"), &mut blocks).unwrap();
+        let (g, x, e, i) = (Value::Plain(1), Value::Dimension, Value::Speed, Value::Dimension(-500_000));
+        let first = vec![(b'G', g), (b'X', x(-5)), (b'E', e(1_500_000_000)), (b'I', i)];
+        let words: Vec<_> = blocks.into_iter().map(|block| block.words).collect();
+        assert_eq!(words, [first, vec![(b'X', x(12)), (b'E', e(0))], vec![(b'X', x(0))]]);
+    }
+
+    #[test]
+    fn tabs_and_ends_without_addresses() {
+        assert_eq!(by_tab("N001\nN002\t\t\t\t\t\nN003\t01\t\t\r\nN004\t\t\t\t\t1\n"), (0, 4));
+        assert_eq!(by_tab("N001\t\t\t\t\t\t\n"), (10, 11));
+        assert_eq!(by_tab("N001\t\t\t\t\t1\t\n"), (10, 12));
+        // a word is due only behind its tab
+        assert_eq!(by_tab("N001+5\n"), (10, 6));
+        assert_eq!(by_tab("N001G01\n"), (10, 6));
+        for other in "GXN%/: ".chars() {
+            assert_eq!(by_tab(&format!("N001\t{other}01\n")), (10, 7), "{other:?}");
+            assert_eq!(by_tab(&format!("N001\t01{other}\n")), (10, 9), "{other:?}");
+        }
+        assert_eq!(by_tab("N001\t\r\t\n"), (10, 7));
+        assert_eq!(by_tab("N001\t"), (14, 7));
+        assert_eq!(by_tab("N001\t01"), (14, 9));
+        assert_eq!(by_tab("N001\t01\r"), (14, 10));
+    }
+
+    #[test]
+    fn signs_and_digits_without_addresses() {
+        for sign in "+-".chars() {
+            assert_eq!(by_tab(&format!("N001\t{sign}01\n")), (12, 7));
+            assert_eq!(by_tab(&format!("N001\t\t\t{sign}\n")), (12, 9));
+            assert_eq!(by_tab(&format!("N001\t\t\t\t{sign}615\n")), (12, 10));
+            assert_eq!(by_tab(&format!("N001\t\t\t\t\t{sign}\n")), (12, 11));
+            assert_eq!(by_tab(&format!("N001\t\t{sign}1\n")), (0, 1));
+            // a sign is no word
+            assert_eq!(by_tab(&format!("N001\t\t{sign}\n")), (11, 9));
+            assert_eq!(by_tab(&format!("N001\t\t{sign}\t\n")), (11, 9));
+            assert_eq!(by_tab(&format!("N001\t\t{sign}X1\n")), (11, 9));
+            assert_eq!(by_tab(&format!("N001\t\t{sign}-1\n")), (11, 9));
+            assert_eq!(by_tab(&format!("N001\t\t{sign}")), (14, 9));
+        }
+        assert_eq!(by_tab("N001\t1\n"), (11, 8));
+        assert_eq!(by_tab("N001\t012\n"), (11, 9));
+        assert_eq!(by_tab("N001\t\t1234567\n"), (11, 14));
+        assert_eq!(by_tab("N001\t\t\t12345\n"), (11, 14));
+        assert_eq!(by_tab("N001\t\t\t1-\n"), (11, 10));
+        assert_eq!(by_tab("N001\t1"), (14, 8));
+    }
+
+    #[test]
+    fn speeds_without_addresses() {
+        assert_eq!(by_tab("N001\t\t\t\t605\n"), (13, 10));
+        assert_eq!(by_tab("N001\t\t\t\t\0(REMARK)605\n"), (13, 19));
+        assert_eq!(by_tab("N001\t\t\t\t605"), (13, 10));
+        assert_eq!(by_tab("N001\t\t\t\t6051\n"), (11, 13));
+        assert_eq!(by_tab("N001\t\t\t\t60\n"), (11, 12));
+        assert_eq!(by_tab("N001\t\t\t\t000\n"), (0, 1));
     }
 }

@@ -93,13 +93,36 @@ pub struct Item {
     pub most: u32,
 }
 
+/// What tells the words of a tape apart.
+#[derive(Clone, Copy, Debug, PartialEq, Eq)]
+pub enum Layout {
+    /// their addresses: a shorthand without dots
+    Addresses,
+    /// tabs, and addresses behind them: a shorthand with dots
+    Both,
+    /// tabs alone: dots, and a profile that says T
+    Tabs,
+}
+
+impl Layout {
+    /// Whether a tab steps to each item.
+    pub fn has_tabs(self) -> bool {
+        self != Layout::Addresses
+    }
+
+    /// Whether a word begins with its address.
+    pub fn has_addresses(self) -> bool {
+        self != Layout::Tabs
+    }
+}
+
 /// What a tape is read by.
 #[derive(Clone, Debug, PartialEq, Eq)]
 pub struct Format {
     /// how many digits stand after N or ":"
     pub sequence: u32,
-    /// with tabs, which is to say dots
-    pub tabs: bool,
+    /// what tells its words apart
+    pub layout: Layout,
     /// the word items in their order
     pub items: Vec<Item>,
 }
@@ -115,11 +138,11 @@ impl Item {
     }
 }
 
-/// The format of `text` by the edition numbered `edition`.
+/// The format of `text` by the edition numbered `edition`, with addresses on the tape.
 pub fn parse(edition: u32, text: &[u8]) -> Result<Format, Refusal> {
     let edition = Edition::numbered(edition).ok_or(Refusal::new(1, 0))?;
     let (sequence, mut at) = sequence_item(edition, text)?;
-    let mut format = Format { sequence, tabs: false, items: Vec::with_capacity(ORDER.len()) };
+    let mut format = Format { sequence, layout: Layout::Addresses, items: Vec::with_capacity(ORDER.len()) };
     loop {
         match text.get(at) {
             None => return Err(Refusal::new(2, text.len())),
@@ -128,8 +151,8 @@ pub fn parse(edition: u32, text: &[u8]) -> Result<Format, Refusal> {
             Some(&first) => {
                 let dot = first == b'.';
                 if format.items.is_empty() {
-                    format.tabs = dot;
-                } else if format.tabs != dot {
+                    format.layout = if dot { Layout::Both } else { Layout::Addresses };
+                } else if format.layout.has_tabs() != dot {
                     return Err(Refusal::new(2, at));
                 }
                 let (item, end) = word_item(edition, text, at, &format.items)?;

@@ -1,6 +1,7 @@
 //! Times counting blocks by the proved library, through the C host, and by the second reader.
 
 use second_opinion::rows::{punched, MOST_ROWS};
+use second_opinion::specification::Specification;
 use second_opinion::trial::chance::Chance;
 use second_opinion::trial::door::Door;
 use second_opinion::trial::inputs::Ask;
@@ -92,7 +93,7 @@ impl Timer {
     /// Times both on one tape, in rounds, so that a machine whose speed changes is as fast for the one as for the
     /// other; they must agree on the answer.
     fn time(&mut self, edition: u32, shorthand: &str, tape: Vec<u8>) -> Result<(Times, u64), Box<dyn Error>> {
-        let ask = Ask::Count { edition, shorthand: shorthand.into(), tape };
+        let ask = Ask::Count { specification: Specification::new(edition, shorthand, ""), tape };
         let (mut library, mut reader, mut number) = (f64::INFINITY, f64::INFINITY, 0);
         let mut ratios = Vec::new();
         for _ in 0..self.repeats {

@@ -1,6 +1,7 @@
 //! The pipe to the C host: requests and answers in frames, as host/door.c has them.
 
 use super::inputs::{Answer, Ask};
+use crate::specification::Specification;
 use std::io::{self, BufReader, Read, Write};
 use std::process::{Child, ChildStdin, ChildStdout, Command, Stdio};
 use std::thread;
@@ -56,7 +57,7 @@ impl Door {
 fn frame(frames: &mut Vec<u8>, ask: &Ask, repeats: u64) {
     let mut put = |numbers: [u64; 5]| numbers.iter().for_each(|number| frames.extend(number.to_le_bytes()));
     match ask {
-        Ask::Count { edition, shorthand, tape } => {
+        Ask::Count { specification: Specification { edition, shorthand, .. }, tape } => {
             put([1, u64::from(*edition), shorthand.len() as u64, tape.len() as u64, repeats]);
             frames.extend_from_slice(shorthand);
             frames.extend_from_slice(tape);

@@ -4,6 +4,7 @@ use super::chance::Chance;
 use super::misplaced::{self, Slipped};
 use super::{damage, programs};
 use crate::rows::{punched, LF, MOST_ROWS};
+use crate::specification::Specification;
 use crate::{count_blocks, listing, punching, speeds, Refusal};
 use std::fmt;
 
@@ -12,10 +13,8 @@ use std::fmt;
 pub enum Ask {
     /// how many blocks
     Count {
-        /// its edition
-        edition: u32,
-        /// its format
-        shorthand: Vec<u8>,
+        /// what the tape is judged by
+        specification: Specification,
         /// its rows
         tape: Vec<u8>,
     },
@@ -82,7 +81,7 @@ impl Ask {
     /// The reader's answer.
     pub fn answer(&self) -> Answer {
         match self {
-            Ask::Count { edition, shorthand, tape } => Answer::of(count_blocks(*edition, shorthand, tape)),
+            Ask::Count { specification, tape } => Answer::of(count_blocks(specification, tape)),
             Ask::Speed { digits, code } => Answer::of(speeds::speed_of(*digits, *code)),
             Ask::Code { digits, speed } => Answer::of(speeds::code_of(*digits, *speed)),
             Ask::Head { length, first } => {
@@ -95,8 +94,8 @@ impl Ask {
 }
 
 impl Input {
-    fn count(edition: u32, shorthand: &[u8], tape: Vec<u8>) -> Input {
-        Input { ask: Ask::Count { edition, shorthand: shorthand.to_vec(), tape }, known: None }
+    fn count(specification: Specification, tape: Vec<u8>) -> Input {
+        Input { ask: Ask::Count { specification, tape }, known: None }
     }
 
     fn known(self, result: Result<u64, Refusal>) -> Input {
@@ -108,7 +107,7 @@ impl Input {
     }
 }
 
-/// About `size` inputs of tapes and shorthands, the same for the same seed.
+/// About `size` inputs of tapes, shorthands and profiles, the same for the same seed.
 pub fn tapes(seed: u64, size: usize) -> Vec<Input> {
     let chance = &mut Chance::new(seed);
     let mut inputs = Vec::with_capacity(size + 400);
@@ -135,7 +134,7 @@ fn sound(chance: &mut Chance, inputs: &mut Vec<Input>) {
     let most = if chance.happens(1, 50) { 60 } else { 7 };
     let tape = programs::tape(chance, &plan, most);
     let blocks = tape.blocks.len() as u64;
-    inputs.push(Input::count(plan.edition, &plan.text, tape.rows).known(Ok(blocks)));
+    inputs.push(Input::count(plan.specification, tape.rows).known(Ok(blocks)));
 }
 
 fn bad_tape(chance: &mut Chance, inputs: &mut Vec<Input>) {
@@ -150,7 +149,7 @@ fn bad_tape(chance: &mut Chance, inputs: &mut Vec<Input>) {
     if chance.happens(1, 16) {
         damage::tape(chance, &mut rows);
     }
-    inputs.push(Input::count(plan.edition, &plan.text, rows));
+    inputs.push(Input::count(plan.specification, rows));
 }
 
 /// Some thousands of rows with faults of several stages, which must not speak out of turn.
@@ -162,44 +161,47 @@ fn bad_middling_tape(chance: &mut Chance, inputs: &mut Vec<Input>) {
         let at = chance.below(rows.len());
         rows[at] = chance.one_of(&[1, 33, 33, punched(b'('), punched(b')'), punched(b'X')]);
     }
-    inputs.push(Input::count(plan.edition, &plan.text, rows));
+    inputs.push(Input::count(plan.specification, rows));
 }
 
+/// A bad shorthand, which is judged before a profile, and that before the tape.
 fn bad_shorthand(chance: &mut Chance, inputs: &mut Vec<Input>) {
     let plan = programs::plan(chance);
     let rows = programs::tape(chance, &plan, 2).rows;
-    let text = bad_text(chance, plan.text);
-    inputs.push(Input::count(either_edition(chance), &text, rows));
+    let profile = Vec::new();
+    let shorthand = bad_text(chance, plan.specification.shorthand);
+    inputs.push(Input::count(Specification { edition: either_edition(chance), shorthand, profile }, rows));
 }
 
 /// A feed where none may stand, or the like.
 fn slipped_shorthand(chance: &mut Chance, inputs: &mut Vec<Input>) {
-    let Slipped { plan, text, refusal } = misplaced::slipped(chance);
+    let Slipped { plan, specification, refusal } = misplaced::slipped(chance);
     let rows = programs::tape(chance, &plan, 2).rows;
-    inputs.push(Input::count(plan.edition, &text, rows).known(Err(refusal)));
+    inputs.push(Input::count(specification, rows).known(Err(refusal)));
 }
 
-/// A tape read by a format that it was not made by.
+/// A tape read by a specification that it was not made by.
 fn other_format(chance: &mut Chance, inputs: &mut Vec<Input>) {
     let plan = programs::plan(chance);
     let other = programs::plan(chance);
     let rows = programs::tape(chance, &plan, 3).rows;
     if chance.happens(1, 2) {
-        inputs.push(Input::count(other.edition, &other.text, rows));
+        inputs.push(Input::count(other.specification, rows));
     } else {
-        inputs.push(Input::count(either_edition(chance), &plan.text, rows));
+        let edition = either_edition(chance);
+        inputs.push(Input::count(Specification { edition, ..plan.specification }, rows));
     }
 }
 
 fn other_edition(chance: &mut Chance, inputs: &mut Vec<Input>) {
     let plan = programs::plan(chance);
     let mut rows = programs::tape(chance, &plan, 2).rows;
-    let mut text = plan.text;
+    let mut specification = Specification { edition: strange_edition(chance), ..plan.specification };
     if chance.happens(1, 2) {
         damage::tape(chance, &mut rows);
-        damage::shorthand(chance, &mut text);
+        damage::shorthand(chance, &mut specification.shorthand);
     }
-    inputs.push(Input::count(strange_edition(chance), &text, rows));
+    inputs.push(Input::count(specification, rows));
 }
 
 /// A tape cut at every length.
@@ -210,19 +212,20 @@ fn cut_tapes(chance: &mut Chance, inputs: &mut Vec<Input>) {
         damage::tape(chance, &mut rows);
     }
     rows.truncate(250);
-    inputs.extend((0..=rows.len()).map(|length| Input::count(plan.edition, &plan.text, rows[..length].to_vec())));
+    inputs.extend((0..=rows.len()).map(|length| Input::count(plan.specification.clone(), rows[..length].to_vec())));
 }
 
 /// A shorthand cut at every length.
 fn cut_shorthands(chance: &mut Chance, inputs: &mut Vec<Input>) {
     let plan = programs::plan(chance);
     let rows = programs::tape(chance, &plan, 1).rows;
-    let mut text = plan.text;
+    let Specification { shorthand: mut text, profile, .. } = plan.specification;
     if chance.happens(1, 4) {
         damage::shorthand(chance, &mut text);
     }
     let edition = either_edition(chance);
-    inputs.extend((0..=text.len()).map(|length| Input::count(edition, &text[..length], rows.clone())));
+    let cut = |length| Specification::new(edition, &text[..length], &profile);
+    inputs.extend((0..=text.len()).map(|length| Input::count(cut(length), rows.clone())));
 }
 
 /// An odd number of holes changed in each of some rows of a sound tape: 5 at the first of them.
@@ -235,7 +238,7 @@ fn odd_holes(chance: &mut Chance, inputs: &mut Vec<Input>) {
     for &at in &chosen {
         rows[at] ^= damage::holes(chance, 1);
     }
-    inputs.push(Input::count(plan.edition, &plan.text, rows).known(Err(Refusal::new(5, chosen[0]))));
+    inputs.push(Input::count(plan.specification, rows).known(Err(Refusal::new(5, chosen[0]))));
 }
 
 /// A shorthand that is hardly ever sound: pieces of some, or damage to `text`.
@@ -272,13 +275,13 @@ fn long_tape(chance: &mut Chance, at: usize) -> Input {
     if at & 15 == 0 {
         let tape = programs::long_tape(chance, &plan, MOST_ROWS);
         let blocks = tape.blocks.len() as u64;
-        return Input::count(plan.edition, &plan.text, tape.rows).known(Ok(blocks));
+        return Input::count(plan.specification, tape.rows).known(Ok(blocks));
     }
     // what stands on it does not matter: the length is judged before all else
     let row = chance.one_of(&[0, 1, 33, 255, 40]);
     let length = MOST_ROWS + 1 + if chance.happens(1, 2) { 0 } else { chance.below(1000) };
     let tape = vec![row; length];
-    Input::count(plan.edition, &plan.text, tape).known(Err(Refusal::new(4, MOST_ROWS)))
+    Input::count(plan.specification, tape).known(Err(Refusal::new(4, MOST_ROWS)))
 }
 
 /// Telling bytes, and beginnings of shorthands that every short text of them follows.
@@ -296,43 +299,48 @@ pub fn short_shorthands(bytes: &[u8], start: &str) -> Vec<Input> {
     let mut inputs = Vec::new();
     for end in texts(bytes, 4) {
         let text = [start.as_bytes(), &end].concat();
-        inputs.extend([1057, 2539].map(|edition| Input::count(edition, &text, vec![punched(b'%'), punched(LF)])));
+        inputs.extend([1057, 2539].map(|edition| Input::count(Specification::new(edition, &text, ""), head())));
     }
     inputs
 }
 
-/// Telling characters; and editions, formats and beginnings of tapes that every short run of them follows.
+fn head() -> Vec<u8> {
+    vec![punched(b'%'), punched(LF)]
+}
+
+/// Telling characters; and editions, formats, profiles and beginnings of tapes that every short run of them follows.
 pub const TAPE_STARTS: &[(&[u8], &[TapeStart])] = &[
     (
         b"\0\t\n\r0+-/:()%NXF",
         &[
-            (1057, "N3.X+11.F3*", ""),
-            (1057, "N3.X+11.F3*", "%"),
-            (1057, "N3.X+11.F3*", "%\nN001"),
-            (1057, "N3.X+11.F3*", "%\nN001\t"),
-            (1057, "N3.X+11.F3*", "%\nN001\tX"),
-            (1057, "N3.X+11.F3*", "%\nN001\t\tF1"),
-            (2539, "N3.X11.F3*", "%\n/:001\tX0"),
-            (2539, "N3X+011F3*", "%\nN001"),
-            (2539, "N3X+011F3*", "%\nN001X"),
-            (2539, "N3XD110F3*", "%\nN001X-0"),
-            (2539, "N3X11F3*", "%\nN001X11F0"),
-            (2539, "N3*", "%\nN00"),
-            (2539, "N3*", "%\n(A"),
+            (1057, "N3.X+11.F3*", "", ""),
+            (1057, "N3.X+11.F3*", "", "%"),
+            (1057, "N3.X+11.F3*", "", "%\nN001"),
+            (1057, "N3.X+11.F3*", "", "%\nN001\t"),
+            (1057, "N3.X+11.F3*", "", "%\nN001\tX"),
+            (1057, "N3.X+11.F3*", "", "%\nN001\t\tF1"),
+            (2539, "N3.X11.F3*", "", "%\n/:001\tX0"),
+            (2539, "N3X+011F3*", "", "%\nN001"),
+            (2539, "N3X+011F3*", "", "%\nN001X"),
+            (2539, "N3XD110F3*", "", "%\nN001X-0"),
+            (2539, "N3X11F3*", "", "%\nN001X11F0"),
+            (2539, "N3*", "", "%\nN00"),
+            (2539, "N3*", "", "%\n(A"),
         ],
     ),
     // words of E and D as feed and as dimension
-    (b"\0\t\n01+DEF", &[(1057, "N3.X+11.E3.D+11*", "%\nN001\t\tE1"), (2539, "N3X11D3E01F3*", "%\nN001D11")]),
+    (b"\0\t\n01+DEF", &[(1057, "N3.X+11.E3.D+11*", "", "%\nN001\t\tE1"), (2539, "N3X11D3E01F3*", "", "%\nN001D11")]),
 ];
 
-/// An edition, a format and the beginning of a tape.
-pub type TapeStart = (u32, &'static str, &'static str);
+/// An edition, a format, a profile and the beginning of a tape.
+pub type TapeStart = (u32, &'static str, &'static str, &'static str);
 
 /// Every tape of a beginning and at most four of those characters.
 pub fn short_tapes(characters: &[u8], start: &TapeStart) -> Vec<Input> {
-    let (edition, shorthand, start) = start;
+    let (edition, shorthand, profile, start) = start;
     let tape = |end: Vec<u8>| start.bytes().chain(end).map(punched).collect();
-    texts(characters, 4).into_iter().map(|end| Input::count(*edition, shorthand.as_bytes(), tape(end))).collect()
+    let input = |end| Input::count(Specification::new(*edition, shorthand, profile), tape(end));
+    texts(characters, 4).into_iter().map(input).collect()
 }
 
 /// Every text of at most `most` of the given bytes.
@@ -403,8 +411,8 @@ fn listing_input(chance: &mut Chance, at: usize) -> (Vec<u8>, Option<String>) {
     }
     let plan = programs::plan(chance);
     let mut tape = programs::tape(chance, &plan, 6);
-    let mut header = format!("{} ", plan.edition).into_bytes();
-    header.extend_from_slice(&plan.text);
+    let mut header = format!("{} ", plan.specification.edition).into_bytes();
+    header.extend_from_slice(&plan.specification.shorthand);
     header.push(b'\n');
     match chance.below(12) {
         0..=4 => {
@@ -414,7 +422,7 @@ fn listing_input(chance: &mut Chance, at: usize) -> (Vec<u8>, Option<String>) {
         5 | 6 => damage::tape(chance, &mut tape.rows),
         7 | 8 => tape.rows = programs::slipped_rows(chance, &plan, 6),
         9 => damage::shorthand(chance, &mut header),
-        _ => header = odd_header(chance, &plan.text),
+        _ => header = odd_header(chance, &plan.specification.shorthand),
     }
     ([header, tape.rows].concat(), None)
 }
@@ -444,8 +452,8 @@ fn long_listing(chance: &mut Chance) -> Vec<u8> {
     let mut rows = programs::long_tape(chance, &plan, length).rows;
     let more = chance.one_of(&[0, 0, 1, 2, 5_000, 1_000_000]);
     rows.resize(length + more, chance.one_of(&[0, 1]));
-    let text = if chance.happens(1, 5) { b"N3X040*".to_vec() } else { plan.text };
-    [plan.edition.to_string().as_bytes(), b" ", &text, b"\n", &rows].concat()
+    let text = if chance.happens(1, 5) { b"N3X040*".to_vec() } else { plan.specification.shorthand };
+    [plan.specification.edition.to_string().as_bytes(), b" ", &text, b"\n", &rows].concat()
 }
 
 impl fmt::Display for Answer {
@@ -461,9 +469,10 @@ impl fmt::Display for Answer {
 impl fmt::Display for Ask {
     fn fmt(&self, to: &mut fmt::Formatter<'_>) -> fmt::Result {
         match self {
-            Ask::Count { edition, shorthand, tape } => {
+            Ask::Count { specification: Specification { edition, shorthand, profile }, tape } => {
                 writeln!(to, "edition {edition}")?;
                 writeln!(to, "shorthand \"{}\" ({} bytes)", shorthand.escape_ascii(), shorthand.len())?;
+                writeln!(to, "profile \"{}\" ({} bytes)", profile.escape_ascii(), profile.len())?;
                 writeln!(to, "tape of {} rows: {}", tape.len(), readable(tape))?;
                 write!(to, "tape in hex: {}", hex(tape))
             }
@@ -512,6 +521,11 @@ pub fn hex(tape: &[u8]) -> String {
 mod tests {
     use super::*;
 
+    /// How many of `inputs` succeed, or are refused with `number`.
+    fn answered(inputs: &[Input], number: u64) -> usize {
+        inputs.iter().filter(|input| input.ask.answer().number == number).count()
+    }
+
     /// What is tried exhaustively tries something: each beginning of feeds has sound and unsound ends.
     #[test]
     fn beginnings_of_feeds() {
@@ -519,11 +533,11 @@ mod tests {
         let (characters, tapes) = TAPE_STARTS[1];
         let shorthands = starts.iter().map(|start| short_shorthands(bytes, start));
         for inputs in shorthands.chain(tapes.iter().map(|start| short_tapes(characters, start))) {
-            let sound = inputs.iter().filter(|input| input.ask.answer().number == 0).count();
+            let sound = answered(&inputs, 0);
             assert!((10..inputs.len() / 2).contains(&sound), "{sound} of {}", inputs.len());
         }
-        for (edition, shorthand, _) in TAPE_STARTS.iter().flat_map(|(_, starts)| *starts) {
-            assert!(crate::shorthand::parse(*edition, shorthand.as_bytes()).is_ok(), "{shorthand}");
+        for (edition, shorthand, profile, _) in TAPE_STARTS.iter().flat_map(|(_, starts)| *starts) {
+            assert!(Specification::new(*edition, shorthand, profile).format().is_ok(), "{shorthand} {profile}");
         }
     }
 }

@@ -8,7 +8,8 @@ use super::records::{self, Handed};
 use crate::punching::{Record, Word, CLEARED};
 use crate::reading::{block_rows, read_block, Block, Opening, Value};
 use crate::rows::{punched, CR, DEL, HT, LF, NUL};
-use crate::shorthand::{parse, Dropped, Format, Item, Kind, Mark};
+use crate::shorthand::{parse, Dropped, Format, Item, Kind, Layout, Mark};
+use crate::specification::Specification;
 use crate::{punch_block, Refusal};
 use std::fmt;
 
@@ -38,10 +39,8 @@ pub enum Line {
 
 /// A block of a tape.
 pub struct Nth {
-    /// the tape's edition
-    pub edition: u32,
-    /// its format
-    pub shorthand: Vec<u8>,
+    /// what the tape is judged by
+    pub specification: Specification,
     /// which block, from 0
     pub n: u64,
     /// the tape's rows
@@ -77,16 +76,16 @@ impl Line {
     /// The line as it is asked.
     pub fn text(&self) -> Vec<u8> {
         match self {
-            Line::Call(Ask::Count { edition, shorthand, tape }) => judged('B', *edition, shorthand, &format!(" {}", asked(tape))),
+            Line::Call(Ask::Count { specification, tape }) => judged('B', specification, &asked(tape)),
             Line::Call(Ask::Speed { digits, code }) => format!("S {digits} {code}").into_bytes(),
             Line::Call(Ask::Code { digits, speed }) => format!("C {digits} {speed}").into_bytes(),
             Line::Call(Ask::Head { length, first }) => format!("H {length} {first}").into_bytes(),
-            Line::Format { edition, shorthand } => judged('F', *edition, shorthand, ""),
+            Line::Format { edition, shorthand } => [format!("F {edition} ").as_bytes(), shorthand].concat(),
             Line::Block(nth) => nth.text('W'),
             Line::Rows(nth) => nth.text('P'),
             Line::Punch(handed) => {
-                let Handed { edition, shorthand, room, first, record } = &**handed;
-                judged('J', *edition, shorthand, &format!(" {room} {first} {}", record_text(record)))
+                let Handed { specification, room, first, record } = &**handed;
+                judged('J', specification, &format!("{room} {first} {}", record_text(record)))
             }
             Line::Remark(text) => text.clone(),
         }
@@ -96,23 +95,20 @@ impl Line {
     fn answer(&self) -> Option<Reply> {
         Some(match self {
             Line::Call(ask) => called(ask),
-            Line::Format { edition, shorthand } => {
-                let none = Format { sequence: 0, tabs: false, items: Vec::new() };
-                handed_back(parse(*edition, shorthand), none, |format| format_text(*edition, &format))
-            }
-            Line::Block(Nth { edition, shorthand, n, tape }) => {
-                let block = parse(*edition, shorthand).and_then(|format| read_block(&format, tape, *n));
+            Line::Format { edition, shorthand } => formed(*edition, parse(*edition, shorthand)),
+            Line::Block(Nth { specification, n, tape }) => {
+                let block = specification.format().and_then(|format| read_block(&format, tape, *n));
                 let none = Block { opening: Opening { skip: false, alignment: false, sequence: 0 }, words: Vec::new() };
                 handed_back(block, none, |block| record_text(&Record::from(&block)))
             }
-            Line::Rows(Nth { edition, shorthand, n, tape }) => {
-                let rows = parse(*edition, shorthand).and_then(|format| block_rows(&format, tape, *n));
+            Line::Rows(Nth { specification, n, tape }) => {
+                let rows = specification.format().and_then(|format| block_rows(&format, tape, *n));
                 handed_back(rows, &[], rows_text)
             }
             Line::Punch(handed) => {
-                let Handed { edition, shorthand, room, first, record } = &**handed;
+                let Handed { specification, room, first, record } = &**handed;
                 let mut buffer = lent(*room, *first);
-                let count = punch_block(*edition, shorthand, record, &mut buffer);
+                let count = punch_block(specification, record, &mut buffer);
                 handed_back(count, 0, |count| buffer_text(count, &buffer))
             }
             Line::Remark(_) => return None,
@@ -122,7 +118,7 @@ impl Line {
 
 impl Nth {
     fn text(&self, letter: char) -> Vec<u8> {
-        judged(letter, self.edition, &self.shorthand, &format!(" {} {}", self.n, asked(&self.tape)))
+        judged(letter, &self.specification, &format!("{} {}", self.n, asked(&self.tape)))
     }
 }
 
@@ -156,13 +152,23 @@ fn called(ask: &Ask) -> Reply {
 fn handed_back<T>(result: Result<T, Refusal>, none: T, text: impl Fn(T) -> String) -> Reply {
     match result {
         Ok(value) => Reply { number: 0, place: 0, handed: text(value) },
-        Err(Refusal { number, place }) => Reply { number: u64::from(number), place, handed: text(none) },
+        Err(refusal) => {
+            let (number, place) = told(refusal);
+            Reply { number, place, handed: text(none) }
+        }
     }
 }
 
-/// A line on what is judged by an edition and a shorthand, with `rest` behind them.
-fn judged(letter: char, edition: u32, shorthand: &[u8], rest: &str) -> Vec<u8> {
-    [format!("{letter} {edition} ").as_bytes(), shorthand, rest.as_bytes()].concat()
+/// The reply with a Format by that edition, or the empty one.
+fn formed(edition: u32, format: Result<Format, Refusal>) -> Reply {
+    let none = Format { sequence: 0, layout: Layout::Addresses, items: Vec::new() };
+    handed_back(format, none, |format| format_text(edition, &format))
+}
+
+/// A line on `rest`, judged by `specification`.
+fn judged(letter: char, specification: &Specification, rest: &str) -> Vec<u8> {
+    let Specification { edition, shorthand, .. } = specification;
+    [format!("{letter} {edition} ").as_bytes(), shorthand, b" ", rest.as_bytes()].concat()
 }
 
 /// A tape as it is asked: the row of SP may stand as it is.
@@ -228,8 +234,12 @@ fn word_text((letter, value): Word) -> String {
 }
 
 fn format_text(edition: u32, format: &Format) -> String {
-    let dots = if format.tabs { "dots" } else { "plain" };
-    let mut text = format!("{} {dots} {}", format.sequence, format.items.len());
+    let layout = match format.layout {
+        Layout::Addresses => "plain",
+        Layout::Both => "dots",
+        Layout::Tabs => "tabs",
+    };
+    let mut text = format!("{} {layout} {}", format.sequence, format.items.len());
     for item in &format.items {
         text += &format!(" {}", item_text(edition, item));
     }
@@ -265,17 +275,19 @@ pub fn punchings(seed: u64, size: usize) -> Vec<Posed> {
 }
 
 fn punching((mut handed, known): (Handed, records::Known)) -> Posed {
-    make_sayable(&mut handed.shorthand);
-    let known = known.map(|known| match known {
-        Ok(_) => (0, 0),
-        Err(refusal) => (u64::from(refusal.number), refusal.place),
-    });
+    make_sayable(&mut handed.specification);
+    let known = known.map(|known| known.map_or_else(told, |_| (0, 0)));
     Posed { line: Line::Punch(Box::new(handed)), known }
 }
 
+/// Number and place, as an answer begins with them.
+fn told(refusal: Refusal) -> (u64, u64) {
+    (u64::from(refusal.number), refusal.place)
+}
+
 /// Takes away what would end a damaged shorthand or its line.
-fn make_sayable(shorthand: &mut Vec<u8>) {
-    shorthand.retain(|byte| !matches!(byte, b' ' | b'\n'));
+fn make_sayable(specification: &mut Specification) {
+    specification.shorthand.retain(|byte| !matches!(byte, b' ' | b'\n'));
 }
 
 /// About `size` tapes: how many blocks, one of them, or its rows. Of a sound tape, all three.
@@ -285,12 +297,12 @@ pub fn tapes(seed: u64, size: usize) -> Vec<Posed> {
 }
 
 fn tape(chance: &mut Chance, input: Input) -> Vec<Posed> {
-    let Ask::Count { edition, mut shorthand, tape } = input.ask else {
+    let Ask::Count { mut specification, tape } = input.ask else {
         return vec![Posed::of(Line::Call(input.ask))];
     };
-    make_sayable(&mut shorthand);
-    let mut nth = || Nth { edition, shorthand: shorthand.clone(), n: some_block(chance), tape: tape.clone() };
-    let mut lines = vec![Line::Block(nth()), Line::Rows(nth()), Line::Call(Ask::Count { edition, shorthand, tape })];
+    make_sayable(&mut specification);
+    let mut nth = || Nth { specification: specification.clone(), n: some_block(chance), tape: tape.clone() };
+    let mut lines = vec![Line::Block(nth()), Line::Rows(nth()), Line::Call(Ask::Count { specification, tape })];
     if input.known.is_none_or(|known| known.number != 0) {
         lines = vec![lines.swap_remove(chance.below(3))];
     }
@@ -316,14 +328,12 @@ pub fn formats(seed: u64, size: usize) -> Vec<Posed> {
 
 /// A feed where none may stand, or the like.
 fn slipped_format(chance: &mut Chance) -> Posed {
-    let Slipped { plan, text, refusal } = misplaced::slipped(chance);
-    let line = Line::Format { edition: plan.edition, shorthand: text };
-    Posed { line, known: Some((u64::from(refusal.number), refusal.place)) }
+    let Slipped { specification: Specification { edition, shorthand, .. }, refusal, .. } = misplaced::slipped(chance);
+    Posed { line: Line::Format { edition, shorthand }, known: Some(told(refusal)) }
 }
 
 fn format(chance: &mut Chance) -> Line {
-    let plan = programs::plan(chance);
-    let (mut edition, mut shorthand) = (plan.edition, plan.text);
+    let Specification { mut edition, mut shorthand, .. } = programs::plan(chance).specification;
     match chance.below(8) {
         0 => edition = strange_edition(chance),
         1 => edition = either_edition(chance),
@@ -348,7 +358,7 @@ pub fn edges() -> Vec<Posed> {
     for bytes in [MOST_BYTES - 1, MOST_BYTES, MOST_BYTES + 1, 2 * MOST_BYTES, 5 * MOST_BYTES] {
         let mut tape = vec![punched(b'%'), punched(LF)];
         tape.resize(bytes - "B 1057 N3* ".len(), NUL);
-        lines.push(Line::Call(Ask::Count { edition: 1057, shorthand: b"N3*".to_vec(), tape }));
+        lines.push(Line::Call(Ask::Count { specification: Specification::new(1057, "N3*", ""), tape }));
     }
     lines.into_iter().map(Posed::of).collect()
 }
@@ -372,7 +382,7 @@ mod tests {
     }
 
     fn nth(n: u64) -> Nth {
-        Nth { edition: 1057, shorthand: PLAIN.into(), n, tape: rows(SAMPLE) }
+        Nth { specification: Specification::new(1057, PLAIN, ""), n, tape: rows(SAMPLE) }
     }
 
     fn format(edition: u32, shorthand: &str) -> String {
@@ -382,14 +392,14 @@ mod tests {
     fn punching(room: usize, sequence: u64, words: &[Word]) -> Line {
         let opening = Opening { skip: false, alignment: true, sequence };
         let record = Record::from(&Block { opening, words: words.to_vec() });
-        Line::Punch(Box::new(Handed { edition: 1057, shorthand: PLAIN.into(), room, first: 254, record }))
+        Line::Punch(Box::new(Handed { specification: Specification::new(1057, PLAIN, ""), room, first: 254, record }))
     }
 
     #[test]
     fn blocks_of_the_sample() {
         let spelt = "%~N001^G01^X+012500^F615~/N002^^X-000250~";
         let asked = |letter: char, n: &str| format!("{letter} 1057 {PLAIN}{n} {spelt} -> ");
-        let count = Ask::Count { edition: 1057, shorthand: PLAIN.into(), tape: rows(SAMPLE) };
+        let count = Ask::Count { specification: Specification::new(1057, PLAIN, ""), tape: rows(SAMPLE) };
         assert_eq!(written(Line::Call(count)), asked('B', "") + "0 0 2");
         assert_eq!(written(Line::Block(nth(0))), asked('W', " 0") + "0 0 - N 1 3 GN1 XD12500 FS1500000000");
         assert_eq!(written(Line::Block(nth(1))), asked('W', " 1") + "0 0 / N 2 1 XD-250");

@@ -3,16 +3,17 @@
 //! Nothing here asks the reader: all before the item at fault is as in a sound shorthand.
 
 use super::chance::Chance;
-use super::programs::{self, Drawn, Made, Plan, Sketch};
+use super::programs::{self, Drawn, Made, Plan, Sketch, MARKS};
 use crate::shorthand::DIMENSIONS;
+use crate::specification::Specification;
 use crate::Refusal;
 
 /// A shorthand with a slip.
 pub struct Slipped {
     /// the sound shorthand that it was made from
     pub plan: Plan,
-    /// its own text
-    pub text: Vec<u8>,
+    /// with its own text
+    pub specification: Specification,
     /// what it must be refused with
     pub refusal: Refusal,
 }
@@ -40,7 +41,7 @@ pub fn slipped(chance: &mut Chance) -> Slipped {
         if let Some(at) = slip(chance, &mut sketch) {
             // the text before the item, without its dot
             let place = sketch.text(at).len();
-            return Slipped { plan, text: sketch.plan().text, refusal: Refusal::new(2, place) };
+            return Slipped { plan, specification: sketch.plan().specification, refusal: Refusal::new(2, place) };
         }
     }
 }
@@ -122,7 +123,7 @@ fn letter_twice(chance: &mut Chance, sketch: &mut Sketch) -> Option<usize> {
     let again = if letter == b'F' || chance.happens(1, 2) {
         programs::speed(chance, letter)
     } else {
-        programs::dimension(chance, letter, sketch.edition == 2539)
+        programs::dimension(chance, letter, sketch.edition == 2539, MARKS)
     };
     let at = some_place(chance, first + 1, sketch);
     sketch.items.insert(at, again);
@@ -135,7 +136,7 @@ fn order_broken_behind_a_feed(chance: &mut Chance, sketch: &mut Sketch) -> Optio
     let (at, next) = sketch.two_dimensions(chance)?;
     let rank = DIMENSIONS.iter().position(|&letter| letter == sketch.items[at].letter)?;
     let earlier = chance.one_of(&DIMENSIONS[..=rank]);
-    sketch.items[next] = programs::dimension(chance, earlier, sketch.edition == 2539);
+    sketch.items[next] = programs::dimension(chance, earlier, sketch.edition == 2539, MARKS);
     let feed = chance.one_of(b"ED");
     sketch.items.insert(at + 1, programs::speed(chance, feed));
     Some(next + 1)
@@ -155,17 +156,17 @@ fn feed_out_of_form(chance: &mut Chance, sketch: &mut Sketch) -> Option<usize> {
 #[cfg(test)]
 mod tests {
     use super::*;
-    use crate::shorthand::parse;
 
     #[test]
     fn slips_are_refused_where_they_were_made() {
         let chance = &mut Chance::new(6);
         let mut seen = [[0; 2]; 2];
         for _ in 0..20_000 {
-            let Slipped { plan, text, refusal } = slipped(chance);
-            assert!(parse(plan.edition, &plan.text).is_ok());
-            assert_eq!(parse(plan.edition, &text), Err(refusal), "{} {}", plan.edition, text.escape_ascii());
-            seen[usize::from(plan.edition == 2539)][usize::from(plan.tabs)] += 1;
+            let Slipped { plan, specification, refusal } = slipped(chance);
+            assert!(plan.specification.format().is_ok());
+            let Specification { edition, shorthand, .. } = &specification;
+            assert_eq!(specification.format(), Err(refusal), "{edition} {}", shorthand.escape_ascii());
+            seen[usize::from(*edition == 2539)][usize::from(plan.layout.has_tabs())] += 1;
         }
         assert!(seen[0][1] > 5_000 && seen[1][0] > 5_000 && seen[1][1] > 5_000);
     }

@@ -5,25 +5,24 @@
 use super::chance::Chance;
 use crate::reading::{Block, Opening, Value};
 use crate::rows::{is_character, punched, BS, CR, DEL, HT, LF, NUL};
-use crate::shorthand::{Dropped, DIMENSIONS};
+use crate::shorthand::{Dropped, Layout, DIMENSIONS};
+use crate::specification::Specification;
 
 /// A word item as it was made.
 #[derive(Clone, Copy)]
 pub(super) enum Made {
     Plain { digits: usize },
     Speed { digits: usize },
-    Dimension { signed: bool, digits: usize, dropped: Dropped },
+    Dimension { mark: Option<u8>, digits: usize, dropped: Dropped },
 }
 
-/// A sound shorthand with what it means.
+/// A sound specification with what it means.
 pub struct Plan {
-    /// 1057 or 2539
-    pub edition: u32,
-    /// its text
-    pub text: Vec<u8>,
+    /// what is handed over
+    pub specification: Specification,
     /// the digits of a sequence number
     pub sequence: usize,
-    pub(super) tabs: bool,
+    pub(super) layout: Layout,
     pub(super) items: Vec<(u8, Made)>,
 }
 
@@ -43,11 +42,14 @@ pub(super) struct Drawn {
 }
 
 impl Sketch {
+    /// The plan without a profile.
     pub fn plan(&self) -> Plan {
-        let Sketch { edition, sequence, tabs, ref items } = *self;
-        let mut text = self.text(items.len());
+        let mut text = self.text(self.items.len());
         text.push(b'*');
-        Plan { edition, text, sequence, tabs, items: items.iter().map(|item| (item.letter, item.made)).collect() }
+        let specification = Specification { edition: self.edition, shorthand: text, profile: Vec::new() };
+        let layout = if self.tabs { Layout::Both } else { Layout::Addresses };
+        let items = self.items.iter().map(|item| (item.letter, item.made)).collect();
+        Plan { specification, sequence: self.sequence, layout, items }
     }
 
     /// The text of N and of the first `count` items.
@@ -75,6 +77,8 @@ pub(super) fn sketch(chance: &mut Chance) -> Sketch {
     let density = chance.below(11);
     let sparse = if chance.happens(1, 4) { chance.below(3) } else { density };
     let dense = density.max(chance.below(11));
+    // now and then no incremental dimension, or no other
+    let marks = chance.one_of(&[MARKS, MARKS, &MARKS[..2], &MARKS[2..]]);
     // which of E and D are feeds; the others are dimensions
     let second = chance.one_of(&[&b""[..], b"E", b"D", b"DE", b"DE", b"DE"]);
     let first: Vec<u8> = DIMENSIONS.iter().copied().filter(|letter| !second.contains(letter)).collect();
@@ -95,7 +99,7 @@ pub(super) fn sketch(chance: &mut Chance) -> Sketch {
     let mut items: Vec<Drawn> = Vec::new();
     items.extend(some_of(chance, b"G", density).iter().map(|&letter| plain(chance, letter)));
     for (&letter, own) in dimensions.iter().zip(own) {
-        items.push(dimension(chance, letter, newer));
+        items.push(dimension(chance, letter, newer, marks));
         items.extend(own.map(|letter| speed(chance, letter)));
     }
     items.extend(feeds.iter().map(|&letter| speed(chance, letter)));
@@ -121,8 +125,11 @@ pub(super) fn speed(chance: &mut Chance, letter: u8) -> Drawn {
     Drawn { letter, made: Made::Speed { digits }, text: vec![letter, digit(digits)] }
 }
 
-pub(super) fn dimension(chance: &mut Chance, letter: u8, newer: bool) -> Drawn {
-    let mark = chance.one_of(&[None, Some(b'+'), Some(b'D')]);
+/// The marks of a dimension.
+pub(super) const MARKS: &[Option<u8>] = &[None, Some(b'+'), Some(b'D')];
+
+pub(super) fn dimension(chance: &mut Chance, letter: u8, newer: bool, marks: &[Option<u8>]) -> Drawn {
+    let mark = chance.one_of(marks);
     let mut text = vec![letter];
     text.extend(mark);
     let (mut a, mut b) = (chance.below(10), chance.below(10));
@@ -142,7 +149,7 @@ pub(super) fn dimension(chance: &mut Chance, letter: u8, newer: bool) -> Drawn {
         Dropped::Leading => text.extend([b'0', digit(a), digit(b)]),
         Dropped::Trailing => text.extend([digit(a), digit(b), b'0']),
     }
-    Drawn { letter, made: Made::Dimension { signed: mark.is_some(), digits: a + b, dropped }, text }
+    Drawn { letter, made: Made::Dimension { mark, digits: a + b, dropped }, text }
 }
 
 fn digit(value: usize) -> u8 {
@@ -228,12 +235,15 @@ fn block(punch: &mut Punch, plan: &Plan) -> Block {
     let kept = if punch.chance.happens(1, 2) { needed } else { needed + punch.chance.below(present.len() - needed + 1) };
     let mut words = Vec::new();
     for (&(letter, made), &present) in plan.items.iter().zip(&present).take(kept) {
-        if plan.tabs != punch.slips() {
+        if plan.layout.has_tabs() != punch.slips() {
             punch.character(HT);
         }
         if present {
-            punch.character(letter);
-            words.push((letter, word(punch, made, plan.edition)));
+            // not left out by a slip: nearly every tape would be refused for it
+            if plan.layout.has_addresses() || punch.slips() {
+                punch.character(letter);
+            }
+            words.push((letter, word(punch, made, plan.specification.edition)));
         }
     }
     punch.end();
@@ -241,20 +251,16 @@ fn block(punch: &mut Punch, plan: &Plan) -> Block {
 }
 
 fn word(punch: &mut Punch, made: Made, edition: u32) -> Value {
+    let sign = match (made, edition) {
+        (Made::Dimension { mark: Some(_), .. }, 1057) => Some(punch.chance.one_of(b"+-")),
+        (Made::Dimension { mark: Some(_), .. }, _) => punch.chance.one_of(&[None, Some(b'+'), Some(b'-')]),
+        _ => None,
+    };
+    punch.sign(sign);
     match made {
         Made::Plain { digits } => Value::Plain(punch.digits(digits)),
         Made::Speed { digits } => Value::Speed(punch.speed(digits)),
-        Made::Dimension { signed, digits, dropped } => {
-            let sign = match (signed, edition) {
-                (false, _) => None,
-                (true, 1057) => Some(punch.chance.one_of(b"+-")),
-                (true, _) => punch.chance.one_of(&[None, Some(b'+'), Some(b'-')]),
-            };
-            match sign {
-                Some(sign) if !punch.slips() => punch.character(sign),
-                None if punch.slips() => punch.character(b'-'),
-                _ => {}
-            }
+        Made::Dimension { digits, dropped, .. } => {
             let standing = if dropped == Dropped::None { digits } else { 1 + punch.chance.below(digits) };
             let mut number = punch.digits(standing) as i64;
             if dropped == Dropped::Trailing {
@@ -318,10 +324,22 @@ impl Punch<'_> {
         self.character(LF);
     }
 
+    /// A sign or none. A slip leaves it out, or puts one in where it may be barred.
+    fn sign(&mut self, sign: Option<u8>) {
+        match (sign, self.slips()) {
+            (Some(sign), false) => self.character(sign),
+            (None, true) => {
+                let sign = self.chance.one_of(b"+-");
+                self.character(sign);
+            }
+            _ => {}
+        }
+    }
+
     /// `count` digits: any, or all of one kind, or zeros at one end.
     fn digits(&mut self, mut count: usize) -> u64 {
         if self.slips() {
-            count = if self.chance.happens(1, 2) { count + 1 } else { count - 1 };
+            count = self.chance.one_of(&[count + 1, count + 1, count - 1, 0]);
         }
         let kind = self.chance.below(8);
         let zeros = self.chance.below(count + 1);
@@ -381,7 +399,7 @@ pub fn any_character(chance: &mut Chance) -> u8 {
 #[cfg(test)]
 mod tests {
     use super::*;
-    use crate::{count_blocks, reading, shorthand};
+    use crate::{count_blocks, reading};
 
     #[test]
     fn what_was_made_is_read() {
@@ -389,7 +407,8 @@ mod tests {
         for _ in 0..5_000 {
             let plan = plan(chance);
             let tape = tape(chance, &plan, 8);
-            let format = shorthand::parse(plan.edition, &plan.text).unwrap();
+            let format = plan.specification.format().unwrap();
+            assert!(plan.items.is_empty() || format.layout == plan.layout);
             let mut blocks = Vec::new();
             assert_eq!(reading::read(&format, &tape.rows, &mut blocks), Ok(()));
             assert_eq!(blocks, tape.blocks);
@@ -432,6 +451,6 @@ mod tests {
         let plan = plan(chance);
         let tape = long_tape(chance, &plan, 50_000);
         assert_eq!(tape.rows.len(), 50_000);
-        assert_eq!(count_blocks(plan.edition, &plan.text, &tape.rows), Ok(tape.blocks.len() as u64));
+        assert_eq!(count_blocks(&plan.specification, &tape.rows), Ok(tape.blocks.len() as u64));
     }
 }

@@ -9,6 +9,7 @@ use super::programs::{self, Made, Plan};
 use crate::punching::{Record, Word, CLEARED, PLACES};
 use crate::reading::{Opening, Value};
 use crate::shorthand::ORDER;
+use crate::specification::Specification;
 use crate::Refusal;
 
 /// The most rows of a lent buffer.
@@ -17,10 +18,8 @@ pub const MOST_ROOM: usize = 4_000;
 /// A record with the buffer that is lent for it.
 #[derive(Clone)]
 pub struct Handed {
-    /// its edition
-    pub edition: u32,
-    /// its format
-    pub shorthand: Vec<u8>,
+    /// what it is judged by
+    pub specification: Specification,
     /// how many rows the buffer has
     pub room: usize,
     /// the buffer's first row before the punching; each further one is one more
@@ -42,13 +41,8 @@ fn one(chance: &mut Chance) -> (Handed, Known) {
     let plan = programs::plan(chance);
     let sound = sound(chance, &plan);
     let room = room(chance, sound.needed);
-    let mut handed = Handed {
-        edition: plan.edition,
-        shorthand: plan.text.clone(),
-        room,
-        first: chance.below(256) as u8,
-        record: sound.record.clone(),
-    };
+    let mut handed =
+        Handed { specification: plan.specification.clone(), room, first: chance.below(256) as u8, record: sound.record.clone() };
     let known = match chance.below(32) {
         0 => other_edition(chance, &mut handed),
         1..=3 => other_shorthand(chance, &mut handed),
@@ -87,11 +81,11 @@ fn sound(chance: &mut Chance, plan: &Plan) -> Sound {
         if chance.happens(density, 10) {
             record.places[record.count as usize] = (letter, value(chance, made));
             record.count += 1;
-            needed += rows_of(made);
+            needed += usize::from(plan.layout.has_addresses()) + rows_of(made);
             tabs = at + 1;
         }
     }
-    if plan.tabs {
+    if plan.layout.has_tabs() {
         needed += tabs;
     }
     if chance.happens(1, 4) {
@@ -100,11 +94,11 @@ fn sound(chance: &mut Chance, plan: &Plan) -> Sound {
     Sound { record, needed }
 }
 
-/// The rows of a word: its address, its sign and all its digits.
+/// The rows of a word but for its address: its sign and all its digits.
 fn rows_of(made: Made) -> usize {
     match made {
-        Made::Plain { digits } | Made::Speed { digits } => 1 + digits,
-        Made::Dimension { signed, digits, .. } => 1 + usize::from(signed) + digits,
+        Made::Plain { digits } | Made::Speed { digits } => digits,
+        Made::Dimension { mark, digits, .. } => usize::from(mark.is_some()) + digits,
     }
 }
 
@@ -129,9 +123,9 @@ fn value(chance: &mut Chance, made: Made) -> Value {
     match made {
         Made::Plain { digits } => Value::Plain(number(chance, digits)),
         Made::Speed { digits } => Value::Speed(speed(chance, digits)),
-        Made::Dimension { signed, digits, .. } => {
+        Made::Dimension { mark, digits, .. } => {
             let number = number(chance, digits) as i64;
-            Value::Dimension(if signed && chance.happens(1, 2) { -number } else { number })
+            Value::Dimension(if mark.is_some() && chance.happens(1, 2) { -number } else { number })
         }
     }
 }
@@ -176,23 +170,24 @@ fn room(chance: &mut Chance, needed: usize) -> usize {
 }
 
 fn other_edition(chance: &mut Chance, handed: &mut Handed) -> Known {
-    handed.edition = strange_edition(chance);
+    handed.specification.edition = strange_edition(chance);
     None
 }
 
 /// The record by a shorthand that it was not made by: cut, damaged, with a slip, or of the other edition.
 fn other_shorthand(chance: &mut Chance, handed: &mut Handed) -> Known {
+    let Specification { edition, shorthand, .. } = &mut handed.specification;
     match chance.below(7) {
-        0 | 1 => handed.shorthand.truncate(chance.below(handed.shorthand.len())),
-        2 | 3 => handed.shorthand = bad_text(chance, handed.shorthand.clone()),
+        0 | 1 => shorthand.truncate(chance.below(shorthand.len())),
+        2 | 3 => *shorthand = bad_text(chance, shorthand.clone()),
         4 => {
-            let Slipped { plan, text, refusal } = misplaced::slipped(chance);
-            (handed.edition, handed.shorthand) = (plan.edition, text);
+            let Slipped { specification, refusal, .. } = misplaced::slipped(chance);
+            handed.specification = specification;
             return Some(Err(refusal));
         }
-        _ => handed.shorthand = programs::plan(chance).text,
+        _ => *shorthand = programs::plan(chance).specification.shorthand,
     }
-    handed.edition = either_edition(chance);
+    *edition = either_edition(chance);
     None
 }
 
@@ -341,7 +336,7 @@ fn far_out(chance: &mut Chance, digits: usize) -> i64 {
 }
 
 fn minus_without_sign(chance: &mut Chance, plan: &Plan, record: &mut Record) -> Option<Refusal> {
-    let bare = |word: &Word| matches!(made_of(plan, word.0), Some(Made::Dimension { signed: false, .. }));
+    let bare = |word: &Word| matches!(made_of(plan, word.0), Some(Made::Dimension { mark: None, .. }));
     let at = some_word_of(chance, record, |word| bare(word) && matches!(word.1, Value::Dimension(_)))?;
     record.places[at].1 = match record.places[at].1 {
         Value::Dimension(number @ 1..) => Value::Dimension(-number),
@@ -375,22 +370,22 @@ fn too_fine(chance: &mut Chance, digits: usize) -> u64 {
 #[cfg(test)]
 mod tests {
     use super::*;
+    use crate::punch_block;
     use crate::punching::punch_head;
     use crate::reading::{block_rows, read_block};
     use crate::trial::inputs::lent;
-    use crate::{punch_block, shorthand};
 
     /// The old content of a lent buffer, and what the punching answers and leaves.
     fn punched(handed: &Handed) -> (Vec<u8>, Result<u64, Refusal>, Vec<u8>) {
         let before = lent(handed.room, handed.first);
         let mut buffer = before.clone();
-        let answer = punch_block(handed.edition, &handed.shorthand, &handed.record, &mut buffer);
+        let answer = punch_block(&handed.specification, &handed.record, &mut buffer);
         (before, answer, buffer)
     }
 
     #[test]
     fn what_was_made_is_punched() {
-        let mut seen = [0; 22];
+        let mut seen = [0; 24];
         for (handed, known) in records(3, 20_000) {
             let (before, answer, buffer) = punched(&handed);
             assert!(known.is_none_or(|known| known == answer));
@@ -412,7 +407,7 @@ mod tests {
             let mut tape = vec![0; 2];
             punch_head(&mut tape).unwrap();
             tape.extend_from_slice(&buffer[..rows as usize]);
-            let format = shorthand::parse(handed.edition, &handed.shorthand).unwrap();
+            let format = handed.specification.format().unwrap();
             let mut cleared = handed.record.clone();
             cleared.places[cleared.count as usize..].fill(CLEARED);
             let block = read_block(&format, &tape, 0).unwrap();

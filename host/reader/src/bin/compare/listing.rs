@@ -33,7 +33,7 @@ struct Tally {
 
 impl Tally {
     fn take(&mut self, input: &[u8], known: &Option<String>, found: &[u8]) {
-        let reader = listing(input);
+        let reader = listing(input, b"");
         self.compared += 1;
         let number = reader.strip_prefix("refused ").and_then(|rest| rest.split(' ').next()?.parse().ok());
         self.seen[number.unwrap_or(0)] += 1;
