@@ -12,6 +12,7 @@ long write(int file, const void *from, size_t length);
 void *mmap(void *at, size_t length, int protection, int flags, int file, long offset);
 int mprotect(void *at, size_t length, int protection);
 void *memcpy(void *to, const void *from, size_t length);
+void *memset(void *to, int byte, size_t length);
 int memcmp(const void *one, const void *other, size_t length);
 size_t strlen(const char *text);
 int strcmp(const char *one, const char *other);
@@ -27,7 +28,7 @@ enum { PROTECT_NONE = 0, PROTECT_READ_WRITE = 3, MAP_OWN_ANONYMOUS = 0x22, CLOCK
 /* A multiple of every page size in use. */
 #define GUARD ((size_t)65536)
 #define MOST_TAPE ((size_t)32 * GUARD)
-#define MOST_SHORTHAND GUARD
+#define MOST_TEXT GUARD
 
 /* What *place and *value hold before a call: an answer that was not written shows. */
 #define UNWRITTEN UINT64_C(0xA5A5A5A5A5A5A5A5)
@@ -66,6 +67,14 @@ struct lent {
     size_t room;
 };
 
+/* Bytes that are only read. */
+struct slice {
+    const uint8_t *bytes;
+    size_t length;
+};
+
+static const struct slice nothing = {NULL, 0};
+
 static struct lent lend(size_t room) {
     room = (room + GUARD - 1) / GUARD * GUARD;
     uint8_t *start = mmap(NULL, room + GUARD, PROTECT_READ_WRITE, MAP_OWN_ANONYMOUS, -1, 0);
@@ -83,16 +92,21 @@ static uint8_t *last(struct lent memory, size_t length) {
     return length == 0 ? NULL : memory.end - length;
 }
 
-static uint8_t *fill(struct lent memory, const void *from, size_t length) {
-    uint8_t *to = last(memory, length);
-    if (length != 0) {
-        memcpy(to, from, length);
+/* A copy of `from` at the memory's end. */
+static struct slice fill(struct lent memory, struct slice from) {
+    uint8_t *to = last(memory, from.length);
+    if (from.length != 0) {
+        memcpy(to, from.bytes, from.length);
     }
-    return to;
+    return (struct slice){to, from.length};
 }
 
-static int same(const uint8_t *one, const void *other, size_t length) {
-    return length == 0 || memcmp(one, other, length) == 0;
+static int same(struct slice one, struct slice other) {
+    return one.length == other.length && (one.length == 0 || memcmp(one.bytes, other.bytes, one.length) == 0);
+}
+
+static struct slice text_slice(const char *text) {
+    return (struct slice){(const uint8_t *)text, strlen(text)};
 }
 
 /* ---- the self-test */
@@ -139,11 +153,19 @@ static void expect_true(const char *what, int holds) {
     }
 }
 
-static struct answer count_blocks(uint32_t edition, const uint8_t *shorthand, size_t shorthand_length,
-                                  const uint8_t *tape, size_t tape_length) {
+/* What a count is handed. */
+struct counted {
+    uint32_t edition;
+    struct slice shorthand;
+    struct slice profile;
+    struct slice tape;
+};
+
+static struct answer count_blocks(struct counted counted) {
     struct answer answer = {0, UNWRITTEN, UNWRITTEN};
-    answer.number =
-        crumbtrellis_count_blocks(edition, shorthand, shorthand_length, tape, tape_length, &answer.place, &answer.value);
+    answer.number = crumbtrellis_count_blocks(counted.edition, counted.shorthand.bytes, counted.shorthand.length,
+                                              counted.profile.bytes, counted.profile.length, counted.tape.bytes,
+                                              counted.tape.length, &answer.place, &answer.value);
     return answer;
 }
 
@@ -174,67 +196,135 @@ static uint8_t row(char character) {
     return (uint8_t)((unsigned char)character | (ones % 2U) << 7);
 }
 
-/* Counts the blocks of `text` punched, with both slices flush against their guards and unchanged after. */
-static void expect_count(struct lent shorthand, struct lent tape, uint32_t edition, const char *format,
+/* Lent memory for each slice of a count. */
+struct desk {
+    struct lent shorthand;
+    struct lent profile;
+    struct lent tape;
+};
+
+static struct desk lend_desk(void) {
+    return (struct desk){lend(MOST_TEXT), lend(MOST_TEXT), lend(MOST_TAPE)};
+}
+
+/* The same with each slice flush against its guard. */
+static struct counted laid_out(const struct desk *desk, struct counted from) {
+    return (struct counted){from.edition, fill(desk->shorthand, from.shorthand), fill(desk->profile, from.profile),
+                            fill(desk->tape, from.tape)};
+}
+
+static int unchanged(struct counted one, struct counted other) {
+    return same(one.shorthand, other.shorthand) && same(one.profile, other.profile) && same(one.tape, other.tape);
+}
+
+/* Counts the blocks of `text` punched, with all slices flush against their guards and unchanged after. */
+static void expect_under(const struct desk *desk, uint32_t edition, const char *format, const char *profile,
                          const char *text, uint64_t number, uint64_t place, uint64_t value) {
     uint8_t rows[256];
     size_t length = strlen(text);
     for (size_t at = 0; at < length; at += 1) {
         rows[at] = row(text[at]);
     }
-    uint8_t *lent_shorthand = fill(shorthand, format, strlen(format));
-    uint8_t *lent_tape = fill(tape, rows, length);
-    expect(text, count_blocks(edition, lent_shorthand, strlen(format), lent_tape, length), number, place, value);
-    expect_true("a lent slice was changed",
-                same(lent_shorthand, format, strlen(format)) && same(lent_tape, rows, length));
+    struct counted asked = {edition, text_slice(format), text_slice(profile), {rows, length}};
+    struct counted lent = laid_out(desk, asked);
+    expect(text, count_blocks(lent), number, place, value);
+    expect_true("a lent slice was changed", unchanged(lent, asked));
 }
 
-static void test_counts(struct lent s, struct lent t) {
+/* The same without a profile. */
+static void expect_count(const struct desk *desk, uint32_t edition, const char *format, const char *text,
+                         uint64_t number, uint64_t place, uint64_t value) {
+    expect_under(desk, edition, format, "", text, number, place, value);
+}
+
+static void test_counts(const struct desk *desk) {
     static const char format[] = "N3.G2.X+42.F3.M2*";
-    expect_count(s, t, 1057, format, "%\nN001\tG01\tX+012500\tF615\n/N002\t\tX-000250\n", 0, 0, 2);
-    expect_count(s, t, 1057, format, "%\n", 0, 0, 0);
-    expect_count(s, t, 1057, format, "%\r(CR THEN A REMARK\n)\n:001\t\t\t\t\n", 0, 0, 1);
-    expect_count(s, t, 2539, "N4X042Y+420*", "%\nN0001X5Y5\n", 0, 0, 1);
-    expect_count(s, t, 1058, format, "%\n", 1, 0, 0);
-    expect_count(s, t, 2539, "N3X+040*", "%\n", 2, 2, 0);
-    expect_count(s, t, 2539, "", "%\n", 2, 0, 0);
-    expect_count(s, t, 1057, "N3.X+042*", "%\n", 3, 2, 0);
-    expect_count(s, t, 1057, format, "%\n(A)B)", 7, 6, 0);
-    expect_count(s, t, 1057, format, "", 8, 0, 0);
-    expect_count(s, t, 1057, format, "%", 8, 1, 0);
-    expect_count(s, t, 1057, format, "%\nN01\n", 9, 5, 0);
-    expect_count(s, t, 1057, format, "%\nN001G01\n", 10, 6, 0);
-    expect_count(s, t, 1057, format, "%\nN001\tG1\n", 11, 9, 0);
-    expect_count(s, t, 1057, format, "%\nN001\t\tX000000\n", 12, 9, 0);
-    expect_count(s, t, 1057, format, "%\nN001\t\t\tF100\n", 13, 9, 0);
-    expect_count(s, t, 1057, format, "%\nN001", 14, 6, 0);
+    expect_count(desk, 1057, format, "%\nN001\tG01\tX+012500\tF615\n/N002\t\tX-000250\n", 0, 0, 2);
+    expect_count(desk, 1057, format, "%\n", 0, 0, 0);
+    expect_count(desk, 1057, format, "%\r(CR THEN A REMARK\n)\n:001\t\t\t\t\n", 0, 0, 1);
+    expect_count(desk, 2539, "N4X042Y+420*", "%\nN0001X5Y5\n", 0, 0, 1);
+    expect_count(desk, 1058, format, "%\n", 1, 0, 0);
+    expect_count(desk, 2539, "N3X+040*", "%\n", 2, 2, 0);
+    expect_count(desk, 2539, "", "%\n", 2, 0, 0);
+    expect_count(desk, 1057, "N3.X+042*", "%\n", 3, 2, 0);
+    expect_count(desk, 1057, format, "%\n(A)B)", 7, 6, 0);
+    expect_count(desk, 1057, format, "", 8, 0, 0);
+    expect_count(desk, 1057, format, "%", 8, 1, 0);
+    expect_count(desk, 1057, format, "%\nN01\n", 9, 5, 0);
+    expect_count(desk, 1057, format, "%\nN001G01\n", 10, 6, 0);
+    expect_count(desk, 1057, format, "%\nN001\tG1\n", 11, 9, 0);
+    expect_count(desk, 1057, format, "%\nN001\t\tX000000\n", 12, 9, 0);
+    expect_count(desk, 1057, format, "%\nN001\t\t\tF100\n", 13, 9, 0);
+    expect_count(desk, 1057, format, "%\nN001", 14, 6, 0);
 
     static const uint8_t odd[] = {165, 10, 37};
     static const uint8_t unknown[] = {165, 10, 33};
-    uint8_t *shorthand = fill(s, format, strlen(format));
-    expect("an odd row", count_blocks(1057, shorthand, strlen(format), fill(t, odd, 3), 3), 5, 2, 0);
-    expect("an unknown row", count_blocks(1057, shorthand, strlen(format), fill(t, unknown, 3), 3), 6, 2, 0);
+    struct counted asked = {1057, text_slice(format), nothing, {odd, 3}};
+    expect("an odd row", count_blocks(laid_out(desk, asked)), 5, 2, 0);
+    asked.tape.bytes = unknown;
+    expect("an unknown row", count_blocks(laid_out(desk, asked)), 6, 2, 0);
+}
+
+/* A profile that agrees, that doesn't, and out of form; and words without addresses. */
+static void test_profiles(const struct desk *desk) {
+    static const char format[] = "N3.G2.X+042*";
+    expect_under(desk, 2539, "N3.G2.X+42.Y+32.Z31.B33.F3.S3.T2.M2*", "LSMD442A", "%\n", 0, 0, 0);
+    expect_under(desk, 2539, "N3.G2.X+42.Y+32.Z31.F3.S3.T2.M2*", "LSMD442A", "%\n", 23, 0, 0);
+    expect_under(desk, 1057, "N3.X+42*", "IPM111", "%\nN001\tX+000000\n", 0, 0, 1);
+    expect_under(desk, 1057, "N3.X+42*", "IPM 111 ", "%\n", 0, 0, 0);
+    expect_under(desk, 1057, "N3.X+42*", "IPM11", "%\n", 22, 5, 0);
+    expect_under(desk, 1057, "N3.X+42*", "IPX111", "%\n", 22, 2, 0);
+    expect_under(desk, 1057, "N3.X+42*", "IPM1111", "%\n", 22, 6, 0);
+    expect_under(desk, 1057, "N3.X+42*", "IPM121", "%\n", 23, 0, 0);
+
+    expect_under(desk, 2539, format, "LTM110A", "%\nN001\t01\t5\nN002\t\t-0\nN003\t\t\n", 0, 0, 3);
+    expect_under(desk, 2539, format, "LTM110A", "%\nN004\tG01\n", 10, 7, 0);
+    expect_under(desk, 2539, format, "LTM110A", "%\nN004\t\t\t\n", 10, 8, 0);
+    expect_under(desk, 2539, format, "LTM110A", "%\nN005\t\t+\n", 11, 9, 0);
+    expect_under(desk, 2539, format, "LTM110A", "%\nN005\t+01\n", 12, 7, 0);
+    expect_under(desk, 2539, "N3.F3*", "LTM000A", "%\nN006\t605\n", 13, 7, 0);
+    expect_under(desk, 2539, format, "LTM110A", "%\nN007\t01\t", 14, 10, 0);
+    expect_under(desk, 2539, format, "", "%\nN008\t01\n", 10, 7, 0);
+
+    /* before the tape, and after edition and shorthand */
+    expect_under(desk, 2539, format, "LTM110", "", 22, 6, 0);
+    expect_under(desk, 2539, format, "LTM111I", "", 23, 0, 0);
+    expect_under(desk, 2538, format, "LTM110", "", 1, 0, 0);
+    expect_under(desk, 2539, "N3.G2", "LTM110", "", 2, 5, 0);
+    expect_under(desk, 1057, format, "LTM110", "", 3, 5, 0);
 }
 
 /* Null pointers with length 0, empty slices that are not null, and the longest tapes. */
-static void test_edges(struct lent s, struct lent t) {
-    uint8_t *shorthand = fill(s, "N3*", 3);
-    expect("no shorthand, no tape", count_blocks(1057, NULL, 0, NULL, 0), 2, 0, 0);
-    expect("no tape", count_blocks(1057, shorthand, 3, NULL, 0), 8, 0, 0);
-    expect("an empty tape", count_blocks(1057, shorthand, 3, t.end, 0), 8, 0, 0);
-    expect("an empty shorthand", count_blocks(2539, s.end, 0, t.end, 0), 2, 0, 0);
-    expect("no edition", count_blocks(0, NULL, 0, NULL, 0), 1, 0, 0);
-    expect("the greatest edition", count_blocks(UINT32_MAX, NULL, 0, NULL, 0), 1, 0, 0);
+static void test_edges(const struct desk *desk) {
+    struct slice shorthand = fill(desk->shorthand, text_slice("N3*"));
+    struct slice no_shorthand = {desk->shorthand.end, 0};
+    struct slice no_profile = {desk->profile.end, 0};
+    struct slice no_tape = {desk->tape.end, 0};
+    expect("no shorthand, no tape", count_blocks((struct counted){1057, nothing, nothing, nothing}), 2, 0, 0);
+    expect("no tape", count_blocks((struct counted){1057, shorthand, nothing, nothing}), 8, 0, 0);
+    expect("an empty tape", count_blocks((struct counted){1057, shorthand, nothing, no_tape}), 8, 0, 0);
+    expect("an empty profile", count_blocks((struct counted){1057, shorthand, no_profile, no_tape}), 8, 0, 0);
+    expect("an empty shorthand", count_blocks((struct counted){2539, no_shorthand, no_profile, no_tape}), 2, 0, 0);
+    expect("no edition", count_blocks((struct counted){0, nothing, nothing, nothing}), 1, 0, 0);
+    expect("the greatest edition", count_blocks((struct counted){UINT32_MAX, nothing, nothing, nothing}), 1, 0, 0);
 
-    uint8_t *tape = last(t, 1000001);
+    uint8_t *tape = last(desk->tape, 1000001);
     for (size_t at = 0; at < 1000001; at += 1) {
         tape[at] = 0;
     }
-    expect("a tape too long", count_blocks(1057, shorthand, 3, tape, 1000001), 4, 1000000, 0);
-    expect("the longest tape, without a head", count_blocks(1057, shorthand, 3, tape + 1, 1000000), 8, 1000000, 0);
+    struct counted asked = {1057, shorthand, nothing, {tape, 1000001}};
+    expect("a tape too long", count_blocks(asked), 4, 1000000, 0);
+    asked.profile = fill(desk->profile, text_slice("ILI001"));
+    expect("a tape too long, and no agreement", count_blocks(asked), 23, 0, 0);
+    asked.profile = nothing;
+    asked.tape = (struct slice){tape + 1, 1000000};
+    expect("the longest tape, without a head", count_blocks(asked), 8, 1000000, 0);
     tape[999999] = row('%');
     tape[1000000] = row('\n');
-    expect("the longest tape", count_blocks(1057, shorthand, 3, tape + 1, 1000000), 0, 0, 0);
+    expect("the longest tape", count_blocks(asked), 0, 0, 0);
+    memset(last(desk->profile, MOST_TEXT), ' ', MOST_TEXT);
+    asked.profile = (struct slice){last(desk->profile, MOST_TEXT), MOST_TEXT};
+    expect("a long profile", count_blocks(asked), 22, 0, 0);
 }
 
 static void test_speeds(void) {
@@ -289,12 +379,12 @@ static void test_heads(struct lent memory) {
 }
 
 static int selftest(void) {
-    struct lent shorthand = lend(MOST_SHORTHAND);
-    struct lent tape = lend(MOST_TAPE);
-    test_counts(shorthand, tape);
-    test_edges(shorthand, tape);
+    struct desk desk = lend_desk();
+    test_counts(&desk);
+    test_profiles(&desk);
+    test_edges(&desk);
     test_speeds();
-    test_heads(tape);
+    test_heads(desk.tape);
     say("door: ");
     say_number(tests - faults);
     say(" of ");
@@ -305,10 +395,11 @@ static int selftest(void) {
 
 /* ---- serving requests */
 
-/* A request is five numbers and, for a count, the bytes of the shorthand and of the tape. The answer
-   is four numbers and, for a head, the whole buffer. Numbers are 8 bytes, lowest first. */
+/* A request is six numbers and, for a count, the bytes of the shorthand, of the profile and of the tape, whose
+   lengths are the last numbers before the repeats. The answer is four numbers and, for a head, the whole buffer.
+   Numbers are 8 bytes, lowest first. */
 enum { COUNT = 1, SPEED = 2, CODE = 3, HEAD = 4 };
-enum { OPERATION, FIRST, SECOND, THIRD, REPEATS, REQUEST };
+enum { OPERATION, FIRST, SECOND, THIRD, FOURTH, REPEATS, REQUEST };
 enum { NUMBER, PLACE, VALUE, NANOSECONDS, ANSWER };
 
 static uint8_t input[65536];
@@ -371,13 +462,12 @@ static uint64_t now(void) {
 }
 
 /* Counts `repeats` times and keeps the shortest time. */
-static struct answer timed_count(uint32_t edition, const uint8_t *shorthand, size_t shorthand_length,
-                                 const uint8_t *tape, size_t tape_length, uint64_t repeats, uint64_t *shortest) {
+static struct answer timed_count(struct counted counted, uint64_t repeats, uint64_t *shortest) {
     struct answer answer = {0, 0, 0};
     *shortest = UINT64_MAX;
     for (uint64_t run = 0; run < repeats; run += 1) {
         uint64_t start = now();
-        answer = count_blocks(edition, shorthand, shorthand_length, tape, tape_length);
+        answer = count_blocks(counted);
         uint64_t time = now() - start;
         if (time < *shortest) {
             *shortest = time;
@@ -386,34 +476,32 @@ static struct answer timed_count(uint32_t edition, const uint8_t *shorthand, siz
     return answer;
 }
 
-struct desk {
-    struct lent shorthand;
-    struct lent tape;
-    uint8_t *shorthand_copy;
-    uint8_t *tape_copy;
+/* What is lent to the library, and the requests' own bytes beside it. */
+struct service {
+    struct desk lent;
+    struct desk copies;
 };
 
-static void take_slice(uint8_t *copy, size_t room, size_t length) {
-    if (length > room || get(copy, length) != length) {
+static struct slice take_slice(struct lent memory, uint64_t length) {
+    if (length > memory.room || get(memory.end - memory.room, (size_t)length) != length) {
         fail("a request is cut short");
     }
+    return (struct slice){memory.end - memory.room, (size_t)length};
 }
 
-static struct answer serve_count(struct desk *desk, const uint64_t *request, uint64_t *nanoseconds) {
-    size_t shorthand_length = (size_t)request[SECOND];
-    size_t tape_length = (size_t)request[THIRD];
-    take_slice(desk->shorthand_copy, desk->shorthand.room, shorthand_length);
-    take_slice(desk->tape_copy, desk->tape.room, tape_length);
-    uint8_t *shorthand = fill(desk->shorthand, desk->shorthand_copy, shorthand_length);
-    uint8_t *tape = fill(desk->tape, desk->tape_copy, tape_length);
-    uint32_t edition = (uint32_t)request[FIRST];
+static struct answer serve_count(const struct service *service, const uint64_t *request, uint64_t *nanoseconds) {
+    struct counted asked = {(uint32_t)request[FIRST], nothing, nothing, nothing};
+    asked.shorthand = take_slice(service->copies.shorthand, request[SECOND]);
+    asked.profile = take_slice(service->copies.profile, request[THIRD]);
+    asked.tape = take_slice(service->copies.tape, request[FOURTH]);
+    struct counted lent = laid_out(&service->lent, asked);
     struct answer answer;
     if (request[REPEATS] == 0) {
-        answer = count_blocks(edition, shorthand, shorthand_length, tape, tape_length);
+        answer = count_blocks(lent);
     } else {
-        answer = timed_count(edition, shorthand, shorthand_length, tape, tape_length, request[REPEATS], nanoseconds);
+        answer = timed_count(lent, request[REPEATS], nanoseconds);
     }
-    if (!same(shorthand, desk->shorthand_copy, shorthand_length) || !same(tape, desk->tape_copy, tape_length)) {
+    if (!unchanged(lent, asked)) {
         fail("a lent slice was changed");
     }
     return answer;
@@ -424,12 +512,12 @@ static void put_answer(struct answer answer, uint64_t nanoseconds) {
     put(numbers, sizeof numbers);
 }
 
-static void serve_one(struct desk *desk, const uint64_t *request) {
+static void serve_one(const struct service *service, const uint64_t *request) {
     uint64_t nanoseconds = 0;
     struct answer answer;
     switch (request[OPERATION]) {
     case COUNT:
-        answer = serve_count(desk, request, &nanoseconds);
+        answer = serve_count(service, request, &nanoseconds);
         put_answer(answer, nanoseconds);
         break;
     case SPEED:
@@ -440,7 +528,7 @@ static void serve_one(struct desk *desk, const uint64_t *request) {
         break;
     case HEAD: {
         size_t length = (size_t)request[FIRST];
-        uint8_t *buffer = lend_buffer(desk->tape, length, request[SECOND]);
+        uint8_t *buffer = lend_buffer(service->lent.tape, length, request[SECOND]);
         put_answer(punch_head(buffer, length), 0);
         put(buffer, length);
         break;
@@ -451,15 +539,11 @@ static void serve_one(struct desk *desk, const uint64_t *request) {
 }
 
 static int serve(void) {
-    struct desk desk = {lend(MOST_SHORTHAND), lend(MOST_TAPE), NULL, NULL};
-    struct lent shorthand_copy = lend(MOST_SHORTHAND);
-    struct lent tape_copy = lend(MOST_TAPE);
-    desk.shorthand_copy = shorthand_copy.end - shorthand_copy.room;
-    desk.tape_copy = tape_copy.end - tape_copy.room;
+    struct service service = {lend_desk(), lend_desk()};
     uint64_t request[REQUEST];
     size_t got;
     while ((got = get(request, sizeof request)) == sizeof request) {
-        serve_one(&desk, request);
+        serve_one(&service, request);
     }
     flush();
     return got == 0 ? 0 : 1;
@@ -468,7 +552,7 @@ static int serve(void) {
 /* ---- timing one tape by hand */
 
 /* The standard input is the listing program's: edition, a space, the shorthand, LF, the rows. */
-static int bench(uint64_t repeats) {
+static int bench(const char *profile, uint64_t repeats) {
     struct lent memory = lend(MOST_TAPE);
     uint8_t *text = memory.end - memory.room;
     size_t length = get(text, memory.room);
@@ -485,8 +569,9 @@ static int bench(uint64_t repeats) {
         fail("no edition and shorthand");
     }
     uint64_t shortest;
-    struct answer answer = timed_count(edition, text + shorthand, at - shorthand, text + at + 1, length - at - 1,
-                                       repeats, &shortest);
+    struct counted counted = {edition, {text + shorthand, at - shorthand}, text_slice(profile),
+                              {text + at + 1, length - at - 1}};
+    struct answer answer = timed_count(counted, repeats, &shortest);
     say("number ");
     say_number(answer.number);
     say(" place ");
@@ -506,8 +591,8 @@ int main(int count, char **words) {
     if (count == 2 && strcmp(words[1], "serve") == 0) {
         return serve();
     }
-    if (count == 2 && strcmp(words[1], "bench") == 0) {
-        return bench(20);
+    if ((count == 2 || count == 3) && strcmp(words[1], "bench") == 0) {
+        return bench(count == 3 ? words[2] : "", 20);
     }
     fail("say selftest, serve or bench");
 }

@@ -11,21 +11,24 @@
  * What the caller owes:
  *   - `place` and `value` point to a uint64_t each, which may hold anything before the call; neither may be null;
  *   - a pointer with its length points to that many bytes; where the length is 0 it may be null;
- *   - `place`, `value` and the bytes of `buffer` overlap neither each other nor any other bytes handed over (two slices
- *     that are only read, a shorthand and a tape, may overlap);
+ *   - `place`, `value` and the bytes of `buffer` overlap neither each other nor any other bytes handed over (slices
+ *     that are only read, a shorthand, a profile and a tape, may overlap);
  *   - no other thread writes to any of these during the call.
  * No function keeps a pointer, allocates, or has state of its own; calls may run in several threads at once.
  *
  * Example: how many blocks has a tape?
  *
- *     const char *shorthand = "N3.G2.X+42.F3.M2*";
+ *     const char *shorthand = "N3.G2.X+42.F3.M2*", *profile = "IPM 111";
  *     uint64_t place, blocks;
  *     uint32_t number = crumbtrellis_count_blocks(1057, (const uint8_t *)shorthand, strlen(shorthand),
+ *                                                 (const uint8_t *)profile, strlen(profile),
  *                                                 tape, rows, &place, &blocks);
  *     if (number == 0)
  *         printf("blocks %llu\n", (unsigned long long)blocks);
  *     else
  *         printf("refused %u %llu\n", number, (unsigned long long)place);
+ *
+ * Without a profile, NULL and 0 stand in its place.
  */
 #ifndef CRUMBTRELLIS_H
 #define CRUMBTRELLIS_H
@@ -50,12 +53,13 @@ enum crumbtrellis_refusal {
                                            row, an unclosed "(" at its own */
     CRUMBTRELLIS_HEAD = 8,              /* the tape does not begin with % and an end; the first wrong row, or the tape's length */
     CRUMBTRELLIS_SEQUENCE = 9,          /* no N or ":", or a wrong count of digits behind it; the first wrong row */
-    CRUMBTRELLIS_NOT_DUE = 10,          /* another character where a word, tab or end could stand, an address that is not due, a
-                                           tab too many, CR without LF; that row, the CR's own */
+    CRUMBTRELLIS_NOT_DUE = 10,          /* another character where a word, tab or end could stand, an address that is not due or,
+                                           without addresses, any letter, a tab too many, CR without LF; that row, the CR's own */
     CRUMBTRELLIS_DIGITS = 11,           /* too few or too many digits in a word; the first wrong row */
-    CRUMBTRELLIS_SIGN = 12,             /* a sign is missing or not allowed; the row found there */
-    CRUMBTRELLIS_SECOND_ZERO = 13,      /* the second digit of a speed is zero and not all are; the row of the address, or 0 for
-                                           a code given as a number */
+    CRUMBTRELLIS_SIGN = 12,             /* a sign is missing or not allowed; the row found there, behind the address or, without
+                                           addresses, behind the tab */
+    CRUMBTRELLIS_SECOND_ZERO = 13,      /* the second digit of a speed is zero and not all are; the row of the address, or without
+                                           addresses the word's first digit; 0 for a code given as a number */
     CRUMBTRELLIS_TAPE_ENDS = 14,        /* the tape ends inside a block; the tape's length */
     CRUMBTRELLIS_NO_BLOCK = 15,         /* block n is not there; the number of blocks */
     CRUMBTRELLIS_RECORD = 16,           /* a record's count over 22, or a word that is no item, out of order or of the wrong kind;
@@ -65,15 +69,21 @@ enum crumbtrellis_refusal {
     CRUMBTRELLIS_INEXACT = 18,          /* a speed has no exact code; the word from 1 */
     CRUMBTRELLIS_BUFFER = 19,           /* the buffer is too small; the rows needed */
     CRUMBTRELLIS_NOT_CODABLE = 20,      /* a speed cannot be coded; 0 */
-    CRUMBTRELLIS_CODE_LENGTH = 21       /* a code's length is not 3 to 5, or the code has more digits; 0 */
+    CRUMBTRELLIS_CODE_LENGTH = 21,      /* a code's length is not 3 to 5, or the code has more digits; 0 */
+    CRUMBTRELLIS_PROFILE_FORM = 22,     /* the profile is out of form; the first wrong byte of it, or its length */
+    CRUMBTRELLIS_PROFILE_AGREEMENT = 23 /* the shorthand does not agree with the profile, or the profile's digits are out of
+                                           order; 0 */
 };
 
 /*
- * The number of blocks of a tape, one byte a row, under an edition (1057 or 2539) and a format shorthand in ASCII.
- * The whole tape is judged. Refusals: 1; 2 or 3; 4; 5; 6; 7; then 8 to 14 at the first fault in tape order.
+ * The number of blocks of a tape, one byte a row, under an edition (1057 or 2539), a format shorthand in ASCII and a profile,
+ * which is the general shorthand in ASCII ("IPM 111", "LSMD442A") and must agree with the other. A profile of length 0 is no
+ * profile. Under a profile with T, and only then, words have no addresses and are known by their tabs.
+ * The whole tape is judged. Refusals: 1; 2 or 3; 22; 23; 4; 5; 6; 7; then 8 to 14 at the first fault in tape order.
  */
-uint32_t crumbtrellis_count_blocks(uint32_t edition, const uint8_t *shorthand, size_t shorthand_length, const uint8_t *tape,
-                                   size_t tape_length, uint64_t *place, uint64_t *value);
+uint32_t crumbtrellis_count_blocks(uint32_t edition, const uint8_t *shorthand, size_t shorthand_length, const uint8_t *profile,
+                                   size_t profile_length, const uint8_t *tape, size_t tape_length, uint64_t *place,
+                                   uint64_t *value);
 
 /*
  * The speed that a code of 3 to 5 digits means, in ten-millionths. The code is given as a number: 46 in three digits is 046.

@@ -55,16 +55,16 @@ impl Door {
 }
 
 fn frame(frames: &mut Vec<u8>, ask: &Ask, repeats: u64) {
-    let mut put = |numbers: [u64; 5]| numbers.iter().for_each(|number| frames.extend(number.to_le_bytes()));
+    let mut put = |numbers: [u64; 6]| numbers.iter().for_each(|number| frames.extend(number.to_le_bytes()));
     match ask {
-        Ask::Count { specification: Specification { edition, shorthand, .. }, tape } => {
-            put([1, u64::from(*edition), shorthand.len() as u64, tape.len() as u64, repeats]);
-            frames.extend_from_slice(shorthand);
-            frames.extend_from_slice(tape);
+        Ask::Count { specification: Specification { edition, shorthand, profile }, tape } => {
+            let [shorthand_length, profile_length, tape_length] = [shorthand, profile, tape].map(|slice| slice.len() as u64);
+            put([1, u64::from(*edition), shorthand_length, profile_length, tape_length, repeats]);
+            [shorthand, profile, tape].iter().for_each(|slice| frames.extend_from_slice(slice));
         }
-        Ask::Speed { digits, code } => put([2, u64::from(*digits), *code, 0, 0]),
-        Ask::Code { digits, speed } => put([3, u64::from(*digits), *speed, 0, 0]),
-        Ask::Head { length, first } => put([4, *length as u64, u64::from(*first), 0, 0]),
+        Ask::Speed { digits, code } => put([2, u64::from(*digits), *code, 0, 0, 0]),
+        Ask::Code { digits, speed } => put([3, u64::from(*digits), *speed, 0, 0, 0]),
+        Ask::Head { length, first } => put([4, *length as u64, u64::from(*first), 0, 0, 0]),
     }
 }
 
