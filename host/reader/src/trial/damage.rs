@@ -1,4 +1,4 @@
-//! Damage: to tapes row by row, to shorthands byte by byte.
+//! Damage: to tapes row by row, to shorthands and profiles byte by byte.
 
 use super::chance::Chance;
 use super::programs::any_character;
@@ -100,9 +100,22 @@ pub fn pieces(chance: &mut Chance) -> Vec<u8> {
 
 /// Does one to three kinds of damage to a shorthand.
 pub fn shorthand(chance: &mut Chance, text: &mut Vec<u8>) {
+    bytes(chance, text, b"N.*GXYZUVWPQRIJKABCDEFSTM++DD0000123456789", PIECES);
+}
+
+/// Does one to three kinds of damage to a profile.
+pub fn profile(chance: &mut Chance, text: &mut Vec<u8>) {
+    bytes(chance, text, b"IPLATSMIRDB   0123456789", &["IPM", "LTM", "LSMD", " ", "  ", "R", "D", "11", "321", "A", "I", "B"]);
+    if chance.happens(1, 100) {
+        text.resize(300, b'A');
+    }
+}
+
+/// Does one to three kinds of damage to a text, mostly with the `telling` bytes and `pieces`.
+fn bytes(chance: &mut Chance, text: &mut Vec<u8>, telling: &[u8], pieces: &[&str]) {
     for _ in 0..1 + chance.below(8) / 5 {
         let at = chance.below(text.len() + 1);
-        let byte = some_byte(chance);
+        let byte = if chance.happens(1, 8) { chance.below(256) as u8 } else { chance.one_of(telling) };
         if at == text.len() {
             text.push(byte);
             continue;
@@ -119,17 +132,9 @@ pub fn shorthand(chance: &mut Chance, text: &mut Vec<u8>) {
             }
             5 => text.truncate(at),
             _ => {
-                let piece = chance.one_of(PIECES).bytes();
+                let piece = chance.one_of(pieces).bytes();
                 text.splice(at..at, piece);
             }
         }
-    }
-}
-
-fn some_byte(chance: &mut Chance) -> u8 {
-    if chance.happens(1, 8) {
-        chance.below(256) as u8
-    } else {
-        chance.one_of(b"N.*GXYZUVWPQRIJKABCDEFSTM++DD0000123456789")
     }
 }

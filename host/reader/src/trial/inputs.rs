@@ -2,6 +2,7 @@
 
 use super::chance::Chance;
 use super::misplaced::{self, Slipped};
+use super::profiles::{self, General};
 use super::{damage, programs};
 use crate::rows::{punched, LF, MOST_ROWS};
 use crate::specification::Specification;
@@ -122,6 +123,10 @@ pub fn tapes(seed: u64, size: usize) -> Vec<Input> {
             43..=50 => slipped_shorthand(chance, &mut inputs),
             51..=60 => other_format(chance, &mut inputs),
             61..=100 => sound(chance, &mut inputs),
+            101..=108 => faulty_profile(chance, &mut inputs),
+            109..=114 => damaged_profile(chance, &mut inputs),
+            115 => cut_profiles(chance, &mut inputs),
+            116..=120 => other_profile(chance, &mut inputs),
             _ => bad_tape(chance, &mut inputs),
         }
     }
@@ -168,7 +173,7 @@ fn bad_middling_tape(chance: &mut Chance, inputs: &mut Vec<Input>) {
 fn bad_shorthand(chance: &mut Chance, inputs: &mut Vec<Input>) {
     let plan = programs::plan(chance);
     let rows = programs::tape(chance, &plan, 2).rows;
-    let profile = Vec::new();
+    let profile = profiles::any(chance, &plan);
     let shorthand = bad_text(chance, plan.specification.shorthand);
     inputs.push(Input::count(Specification { edition: either_edition(chance), shorthand, profile }, rows));
 }
@@ -193,13 +198,55 @@ fn other_format(chance: &mut Chance, inputs: &mut Vec<Input>) {
     }
 }
 
+/// A profile out of form, or one that the shorthand doesn't agree with, whatever stands on the tape.
+fn faulty_profile(chance: &mut Chance, inputs: &mut Vec<Input>) {
+    let plan = programs::plan(chance);
+    let mut rows = programs::tape(chance, &plan, 2).rows;
+    if chance.happens(1, 2) {
+        damage::tape(chance, &mut rows);
+    }
+    let (profile, refusal) = profiles::faulty(chance, &plan);
+    inputs.push(Input::count(Specification { profile, ..plan.specification }, rows).known(Err(refusal)));
+}
+
+fn damaged_profile(chance: &mut Chance, inputs: &mut Vec<Input>) {
+    let plan = programs::plan(chance);
+    let rows = programs::tape(chance, &plan, 2).rows;
+    let profile = profiles::damaged(chance, &plan);
+    inputs.push(Input::count(Specification { profile, ..plan.specification }, rows));
+}
+
+/// A profile cut at every length.
+fn cut_profiles(chance: &mut Chance, inputs: &mut Vec<Input>) {
+    let plan = programs::plan(chance);
+    let rows = programs::tape(chance, &plan, 1).rows;
+    let whole = if chance.happens(1, 2) { profiles::any(chance, &plan) } else { plan.specification.profile.clone() };
+    inputs.extend((0..=whole.len()).map(|length| {
+        let profile = whole[..length].to_vec();
+        Input::count(Specification { profile, ..plan.specification.clone() }, rows.clone())
+    }));
+}
+
+/// A tape read under another profile than its own, that may agree too, or under none.
+fn other_profile(chance: &mut Chance, inputs: &mut Vec<Input>) {
+    let plan = programs::plan(chance);
+    let rows = programs::tape(chance, &plan, 3).rows;
+    let profile = match chance.below(4) {
+        0 => Vec::new(),
+        1 => programs::plan(chance).specification.profile,
+        _ => General::drawn(chance, &plan).map_or(Vec::new(), |other| other.text()),
+    };
+    inputs.push(Input::count(Specification { profile, ..plan.specification }, rows));
+}
+
 fn other_edition(chance: &mut Chance, inputs: &mut Vec<Input>) {
     let plan = programs::plan(chance);
     let mut rows = programs::tape(chance, &plan, 2).rows;
-    let mut specification = Specification { edition: strange_edition(chance), ..plan.specification };
+    let mut specification = Specification { edition: strange_edition(chance), ..plan.specification.clone() };
     if chance.happens(1, 2) {
         damage::tape(chance, &mut rows);
         damage::shorthand(chance, &mut specification.shorthand);
+        specification.profile = profiles::any(chance, &plan);
     }
     inputs.push(Input::count(specification, rows));
 }
@@ -308,6 +355,21 @@ fn head() -> Vec<u8> {
     vec![punched(b'%'), punched(LF)]
 }
 
+/// Editions and formats, and beginnings of profiles that every short text of telling bytes follows.
+pub const PROFILE_STARTS: &[(u32, &str, &[&str])] = &[
+    (1057, "N3.X+42.B42*", &["", "IP", "ILM", "IPMR", "IPMD ", "ILI2", "IPMR32"]),
+    (2539, "N3.X+42.I42*", &["", "L", "LT", "LTM", "PSM ", "LTM1", "LSM11", "PTM 110"]),
+    (2539, "N3X42*", &["LAM", "PAM1"]),
+    (2539, "N3XD42ED42*", &["LAM", "LAMR22"]),
+    (2539, "N3*", &["PTM0", "LAM 00"]),
+];
+
+/// Every profile of `start` and at most four bytes.
+pub fn short_profiles(edition: u32, shorthand: &str, start: &str) -> Vec<Input> {
+    let profiles = texts(b"IPTMRDA 012", 4).into_iter().map(|end| [start.as_bytes(), &end].concat());
+    profiles.map(|profile| Input::count(Specification::new(edition, shorthand, profile), head())).collect()
+}
+
 /// Telling characters; and editions, formats, profiles and beginnings of tapes that every short run of them follows.
 pub const TAPE_STARTS: &[(&[u8], &[TapeStart])] = &[
     (
@@ -330,6 +392,19 @@ pub const TAPE_STARTS: &[(&[u8], &[TapeStart])] = &[
     ),
     // words of E and D as feed and as dimension
     (b"\0\t\n01+DEF", &[(1057, "N3.X+11.E3.D+11*", "", "%\nN001\t\tE1"), (2539, "N3X11D3E01F3*", "", "%\nN001D11")]),
+    // words without addresses
+    (
+        b"\0\t\n\r01+-(XF ",
+        &[
+            (2539, "N3.X+011.F3*", "LTM110A", "%\nN001"),
+            (2539, "N3.X+011.F3*", "LTM110A", "%\nN001\t"),
+            (2539, "N3.X+011.F3*", "LTM110A", "%\nN001\t-0\t1"),
+            (2539, "N3.X11.T1*", "PTM111A", "%\nN001\t"),
+            (2539, "N3.X11.T1*", "PTM111A", "%\n/:001\t00\t"),
+            (2539, "N3.XD110*", "PTM 910 I", "%\nN001\t"),
+            (2539, "N3*", "LTM000B", "%\nN001"),
+        ],
+    ),
 ];
 
 /// An edition, a format, a profile and the beginning of a tape.
@@ -398,33 +473,54 @@ fn room(chance: &mut Chance) -> usize {
     chance.below(most)
 }
 
-/// Standard inputs of the listing program, `size` of them.
-pub fn listings(seed: u64, size: usize) -> Vec<(Vec<u8>, Option<String>)> {
-    let chance = &mut Chance::new(seed);
-    (0..size).map(|at| listing_input(chance, at)).collect()
+/// What the listing program is handed.
+pub struct Listed {
+    /// its standard input
+    pub input: Vec<u8>,
+    /// its argument, where there is one
+    pub profile: Option<Vec<u8>>,
+    /// its output, where that is known from the making
+    pub known: Option<String>,
 }
 
-/// One standard input, and its listing where it is known from the making.
-fn listing_input(chance: &mut Chance, at: usize) -> (Vec<u8>, Option<String>) {
+/// Inputs of the listing program, `size` of them.
+pub fn listings(seed: u64, size: usize) -> Vec<Listed> {
+    let chance = &mut Chance::new(seed);
+    (0..size).map(|at| listed(chance, at)).collect()
+}
+
+fn listed(chance: &mut Chance, at: usize) -> Listed {
     if at % 100 == 7 {
-        return (long_listing(chance), None);
+        return long_listing(chance);
     }
     let plan = programs::plan(chance);
     let mut tape = programs::tape(chance, &plan, 6);
-    let mut header = format!("{} ", plan.specification.edition).into_bytes();
-    header.extend_from_slice(&plan.specification.shorthand);
-    header.push(b'\n');
-    match chance.below(12) {
-        0..=4 => {
-            let text = listing::text(plan.sequence as u32, &tape.blocks);
-            return ([header, tape.rows].concat(), Some(text));
-        }
+    let Specification { edition, shorthand, mut profile } = plan.specification.clone();
+    let mut header = header(edition, &shorthand);
+    let mut known = None;
+    match chance.below(14) {
+        0..=4 => known = Some(listing::text(plan.sequence as u32, &tape.blocks)),
         5 | 6 => damage::tape(chance, &mut tape.rows),
         7 | 8 => tape.rows = programs::slipped_rows(chance, &plan, 6),
         9 => damage::shorthand(chance, &mut header),
-        _ => header = odd_header(chance, &plan.specification.shorthand),
+        10 => {
+            let (faulty, refusal) = profiles::faulty(chance, &plan);
+            (profile, known) = (faulty, Some(format!("{refusal}\n")));
+        }
+        11 => profile = profiles::damaged(chance, &plan),
+        _ => header = odd_header(chance, &shorthand),
     }
-    ([header, tape.rows].concat(), None)
+    Listed { input: [header, tape.rows].concat(), profile: argument(chance, profile), known }
+}
+
+/// A profile as an argument, which can't have a NUL; none is no argument, or an empty one.
+fn argument(chance: &mut Chance, mut profile: Vec<u8>) -> Option<Vec<u8>> {
+    profile.retain(|&byte| byte != 0);
+    (!profile.is_empty() || chance.happens(1, 3)).then_some(profile)
+}
+
+fn header(edition: u32, shorthand: &[u8]) -> Vec<u8> {
+    [edition.to_string().as_bytes(), b" ", shorthand, b"\n"].concat()
 }
 
 /// A header at the edges of its rules.
@@ -446,14 +542,19 @@ fn odd_header(chance: &mut Chance, shorthand: &[u8]) -> Vec<u8> {
 }
 
 /// As many rows as the listing program takes, or one more or many more.
-fn long_listing(chance: &mut Chance) -> Vec<u8> {
+fn long_listing(chance: &mut Chance) -> Listed {
     let plan = programs::plan(chance);
     let length = chance.one_of(&[60_000, 59_999]);
     let mut rows = programs::long_tape(chance, &plan, length).rows;
     let more = chance.one_of(&[0, 0, 1, 2, 5_000, 1_000_000]);
     rows.resize(length + more, chance.one_of(&[0, 1]));
-    let text = if chance.happens(1, 5) { b"N3X040*".to_vec() } else { plan.specification.shorthand };
-    [plan.specification.edition.to_string().as_bytes(), b" ", &text, b"\n", &rows].concat()
+    let Specification { edition, shorthand, profile } = &plan.specification;
+    let (shorthand, profile) = match chance.below(10) {
+        0 | 1 => (&b"N3X040*"[..], profile.clone()),
+        2 => (&shorthand[..], profiles::any(chance, &plan)),
+        _ => (&shorthand[..], profile.clone()),
+    };
+    Listed { input: [header(*edition, shorthand), rows].concat(), profile: argument(chance, profile), known: None }
 }
 
 impl fmt::Display for Answer {
@@ -538,6 +639,21 @@ mod tests {
         }
         for (edition, shorthand, profile, _) in TAPE_STARTS.iter().flat_map(|(_, starts)| *starts) {
             assert!(Specification::new(*edition, shorthand, profile).format().is_ok(), "{shorthand} {profile}");
+        }
+    }
+
+    /// The same of profiles and of tapes without addresses.
+    #[test]
+    fn beginnings_of_profiles() {
+        for (edition, shorthand, starts) in PROFILE_STARTS {
+            let all: Vec<Input> = starts.iter().flat_map(|start| short_profiles(*edition, shorthand, start)).collect();
+            let [sound, out_of_form, disagreeing] = [0, 22, 23].map(|number| answered(&all, number));
+            assert!(sound > 5 && out_of_form > 1_000 && disagreeing > 20, "{shorthand}: {sound} {out_of_form} {disagreeing}");
+        }
+        let (characters, starts) = TAPE_STARTS[2];
+        let all: Vec<Input> = starts.iter().flat_map(|start| short_tapes(characters, start)).collect();
+        for number in [0, 10, 11, 12, 13, 14] {
+            assert!(answered(&all, number) > 20, "{number}");
         }
     }
 }

@@ -165,10 +165,11 @@ fn formed(edition: u32, format: Result<Format, Refusal>) -> Reply {
     handed_back(format, none, |format| format_text(edition, &format))
 }
 
-/// A line on `rest`, judged by `specification`.
+/// A line on `rest`, judged by `specification`. A profile stands between bars; without one there are none.
 fn judged(letter: char, specification: &Specification, rest: &str) -> Vec<u8> {
-    let Specification { edition, shorthand, .. } = specification;
-    [format!("{letter} {edition} ").as_bytes(), shorthand, b" ", rest.as_bytes()].concat()
+    let Specification { edition, shorthand, profile } = specification;
+    let bar: &[u8] = if profile.is_empty() { b"" } else { b"|" };
+    [format!("{letter} {edition} ").as_bytes(), shorthand, bar, profile, bar, b" ", rest.as_bytes()].concat()
 }
 
 /// A tape as it is asked: the row of SP may stand as it is.
@@ -285,9 +286,10 @@ fn told(refusal: Refusal) -> (u64, u64) {
     (u64::from(refusal.number), refusal.place)
 }
 
-/// Takes away what would end a damaged shorthand or its line.
+/// Takes away what would end a damaged shorthand, a damaged profile or their line.
 fn make_sayable(specification: &mut Specification) {
-    specification.shorthand.retain(|byte| !matches!(byte, b' ' | b'\n'));
+    specification.shorthand.retain(|byte| !matches!(byte, b' ' | b'|' | b'\n'));
+    specification.profile.retain(|byte| !matches!(byte, b'|' | b'\n'));
 }
 
 /// About `size` tapes: how many blocks, one of them, or its rows. Of a sound tape, all three.
@@ -417,6 +419,21 @@ mod tests {
         assert_eq!(format(2539, "N3X+040*"), "F 2539 N3X+040* -> 2 2 0 plain 0");
         assert_eq!(format(1057, "N3.X+042*"), "F 1057 N3.X+042* -> 3 2 0 plain 0");
         assert_eq!(format(1, ""), "F 1  -> 1 0 0 plain 0");
+    }
+
+    #[test]
+    fn tapes_and_records_under_profiles() {
+        let specification = Specification::new(2539, "N3.G2.X+042*", "LTM110A");
+        let tape = rows("%\nN001\t01\t5\n");
+        let asked = "2539 N3.G2.X+042*|LTM110A|";
+        let count = Ask::Count { specification: specification.clone(), tape: tape.clone() };
+        assert_eq!(written(Line::Call(count)), format!("B {asked} %~N001^01^5~ -> 0 0 1"));
+        let nth = Nth { specification: specification.clone(), n: 0, tape };
+        assert_eq!(written(Line::Block(nth)), format!("W {asked} 0 %~N001^01^5~ -> 0 0 - N 1 2 GN1 XD5"));
+        let opening = Opening { skip: false, alignment: false, sequence: 2 };
+        let record = Record::from(&Block { opening, words: vec![(b'X', Value::Dimension(0))] });
+        let handed = Handed { specification, room: 14, first: 0, record };
+        assert_eq!(written(Line::Punch(Box::new(handed))), format!("J {asked} 14 0 - N 2 1 XD0 -> 0 0 14 N002^^+000000~"));
     }
 
     #[test]

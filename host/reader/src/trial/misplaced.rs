@@ -3,6 +3,7 @@
 //! Nothing here asks the reader: all before the item at fault is as in a sound shorthand.
 
 use super::chance::Chance;
+use super::profiles;
 use super::programs::{self, Drawn, Made, Plan, Sketch, MARKS};
 use crate::shorthand::DIMENSIONS;
 use crate::specification::Specification;
@@ -12,7 +13,7 @@ use crate::Refusal;
 pub struct Slipped {
     /// the sound shorthand that it was made from
     pub plan: Plan,
-    /// with its own text
+    /// with its own text; a profile is not looked at
     pub specification: Specification,
     /// what it must be refused with
     pub refusal: Refusal,
@@ -41,7 +42,9 @@ pub fn slipped(chance: &mut Chance) -> Slipped {
         if let Some(at) = slip(chance, &mut sketch) {
             // the text before the item, without its dot
             let place = sketch.text(at).len();
-            return Slipped { plan, specification: sketch.plan().specification, refusal: Refusal::new(2, place) };
+            let profile = profiles::any(chance, &plan);
+            let specification = Specification { profile, ..sketch.plan().specification };
+            return Slipped { plan, specification, refusal: Refusal::new(2, place) };
         }
     }
 }

@@ -7,5 +7,6 @@ pub mod door;
 pub mod inputs;
 pub mod lines;
 pub mod misplaced;
+mod profiles;
 pub mod programs;
 pub mod records;

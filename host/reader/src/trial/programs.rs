@@ -3,6 +3,7 @@
 //! Nothing here asks the reader: the expected blocks are known from the making.
 
 use super::chance::Chance;
+use super::profiles::General;
 use crate::reading::{Block, Opening, Value};
 use crate::rows::{is_character, punched, BS, CR, DEL, HT, LF, NUL};
 use crate::shorthand::{Dropped, Layout, DIMENSIONS};
@@ -63,9 +64,26 @@ impl Sketch {
     }
 }
 
-/// A sound shorthand of either edition.
+impl Plan {
+    /// The same shorthand under `profile`, which agrees with it.
+    pub(super) fn under(mut self, profile: &General) -> Plan {
+        self.layout = match (self.layout.has_tabs(), profile.has_addresses()) {
+            (false, _) => Layout::Addresses,
+            (true, true) => Layout::Both,
+            (true, false) => Layout::Tabs,
+        };
+        self.specification.profile = profile.text();
+        self
+    }
+}
+
+/// A sound shorthand of either edition, about half of the time under a profile.
 pub fn plan(chance: &mut Chance) -> Plan {
-    sketch(chance).plan()
+    let plan = sketch(chance).plan();
+    match General::drawn(chance, &plan) {
+        Some(profile) if chance.happens(4, 7) => plan.under(&profile),
+        _ => plan,
+    }
 }
 
 pub(super) fn sketch(chance: &mut Chance) -> Sketch {

@@ -5,6 +5,7 @@
 use super::chance::Chance;
 use super::inputs::{bad_text, either_edition, strange_edition};
 use super::misplaced::{self, Slipped};
+use super::profiles;
 use super::programs::{self, Made, Plan};
 use crate::punching::{Record, Word, CLEARED, PLACES};
 use crate::reading::{Opening, Value};
@@ -43,9 +44,10 @@ fn one(chance: &mut Chance) -> (Handed, Known) {
     let room = room(chance, sound.needed);
     let mut handed =
         Handed { specification: plan.specification.clone(), room, first: chance.below(256) as u8, record: sound.record.clone() };
-    let known = match chance.below(32) {
-        0 => other_edition(chance, &mut handed),
-        1..=3 => other_shorthand(chance, &mut handed),
+    let known = match chance.below(36) {
+        0 => other_edition(chance, &plan, &mut handed),
+        1..=3 => other_shorthand(chance, &plan, &mut handed),
+        32..=35 => other_profile(chance, &plan, &mut handed),
         4..=17 => Some(one_fault(chance, &plan, &mut handed.record)),
         18..=20 => some_faults(chance, &plan, &mut handed.record),
         _ => Some(sound.punched_into(room)),
@@ -169,14 +171,15 @@ fn room(chance: &mut Chance, needed: usize) -> usize {
     }
 }
 
-fn other_edition(chance: &mut Chance, handed: &mut Handed) -> Known {
+fn other_edition(chance: &mut Chance, plan: &Plan, handed: &mut Handed) -> Known {
     handed.specification.edition = strange_edition(chance);
+    handed.specification.profile = profiles::any(chance, plan);
     None
 }
 
 /// The record by a shorthand that it was not made by: cut, damaged, with a slip, or of the other edition.
-fn other_shorthand(chance: &mut Chance, handed: &mut Handed) -> Known {
-    let Specification { edition, shorthand, .. } = &mut handed.specification;
+fn other_shorthand(chance: &mut Chance, plan: &Plan, handed: &mut Handed) -> Known {
+    let Specification { edition, shorthand, profile } = &mut handed.specification;
     match chance.below(7) {
         0 | 1 => shorthand.truncate(chance.below(shorthand.len())),
         2 | 3 => *shorthand = bad_text(chance, shorthand.clone()),
@@ -187,7 +190,27 @@ fn other_shorthand(chance: &mut Chance, handed: &mut Handed) -> Known {
         }
         _ => *shorthand = programs::plan(chance).specification.shorthand,
     }
+    *profile = profiles::any(chance, plan);
     *edition = either_edition(chance);
+    None
+}
+
+/// The record by a profile that it was not made by. A fault of the profile comes before any of the record.
+fn other_profile(chance: &mut Chance, plan: &Plan, handed: &mut Handed) -> Known {
+    if chance.happens(1, 2) {
+        // a fault of the record can't speak
+        let _ = one_fault(chance, plan, &mut handed.record);
+    }
+    let profile = &mut handed.specification.profile;
+    match chance.below(4) {
+        0 => *profile = profiles::damaged(chance, plan),
+        1 => *profile = profiles::any(chance, plan),
+        _ => {
+            let (faulty, refusal) = profiles::faulty(chance, plan);
+            *profile = faulty;
+            return Some(Err(refusal));
+        }
+    }
     None
 }
 
@@ -394,7 +417,7 @@ mod tests {
             assert!(handed.room <= MOST_ROOM);
             seen[answer.err().map_or(0, |refusal| refusal.number as usize)] += 1;
         }
-        for number in [0, 1, 2, 3, 16, 17, 18, 19] {
+        for number in [0, 1, 2, 3, 16, 17, 18, 19, 22, 23] {
             assert!(seen[number] > 200, "{number} was seen {} times", seen[number]);
         }
     }

@@ -12,9 +12,10 @@ const BATCH: usize = 500;
 /// How many tapes at and over the row limit are tried, and how many of them one seed settles.
 const LONG: usize = 64;
 const LONG_BATCH: usize = 8;
-/// How often each refusal of a tape or shorthand must be seen.
+/// How often each refusal of a tape, shorthand or profile must be seen, and which answers to a tape without addresses.
 const LEAST: u64 = 50;
-const REFUSALS: &[usize] = &[1, 2, 3, 4, 5, 6, 7, 8, 9, 10, 11, 12, 13, 14];
+const REFUSALS: &[usize] = &[1, 2, 3, 4, 5, 6, 7, 8, 9, 10, 11, 12, 13, 14, 22, 23];
+const WITHOUT_ADDRESSES: &[usize] = &[0, 10, 11, 12, 13, 14];
 
 pub fn compare(order: &Order) -> Result<bool, Box<dyn Error>> {
     let batches = batches(order.inputs);
@@ -44,6 +45,11 @@ fn batches(inputs: usize) -> Vec<Batch<'static, Input>> {
             batches.push(Box::new(|_| inputs::short_shorthands(bytes, start)));
         }
     }
+    for (edition, shorthand, starts) in inputs::PROFILE_STARTS {
+        for start in *starts {
+            batches.push(Box::new(|_| inputs::short_profiles(*edition, shorthand, start)));
+        }
+    }
     for (characters, starts) in inputs::TAPE_STARTS {
         for start in *starts {
             batches.push(Box::new(|_| inputs::short_tapes(characters, start)));
@@ -71,6 +77,8 @@ fn work(order: &Order, turns: &Turns<Batch<Input>>, tally: &Mutex<Tally>) -> io:
 #[derive(Default)]
 struct Tally {
     tapes: Seen,
+    /// those of the tapes whose words have no addresses
+    without_addresses: Seen,
     numbers: Seen,
     odd_holes: u64,
     differences: u64,
@@ -79,12 +87,14 @@ struct Tally {
 impl Tally {
     fn take(&mut self, input: &Input, door: &Answer) {
         let reader = input.ask.answer();
-        let seen = match input.ask {
-            Ask::Count { .. } => &mut self.tapes,
-            _ => &mut self.numbers,
-        };
-        if let Some(count) = seen.get_mut(reader.number as usize) {
-            *count += 1;
+        let number = reader.number as usize;
+        match &input.ask {
+            Ask::Count { specification, .. } => {
+                self.tapes[number] += 1;
+                let without = specification.format().is_ok_and(|format| !format.layout.has_addresses());
+                self.without_addresses[number] += u64::from(without);
+            }
+            _ => self.numbers[number] += 1,
         }
         let known = input.known.as_ref();
         self.odd_holes += u64::from(known.is_some_and(|known| known.number == 5));
@@ -97,6 +107,7 @@ impl Tally {
 
     fn add(&mut self, other: &Tally) {
         add(&mut self.tapes, &other.tapes);
+        add(&mut self.without_addresses, &other.without_addresses);
         add(&mut self.numbers, &other.numbers);
         self.odd_holes += other.odd_holes;
         self.differences += other.differences;
@@ -104,11 +115,18 @@ impl Tally {
 
     fn report(&self) -> bool {
         let total = |seen: &Seen| seen.iter().sum::<u64>();
-        println!("tapes and shorthands: {}, seen {}", total(&self.tapes), seen(&self.tapes));
-        println!("speeds, codes and heads: {}, seen {}", total(&self.numbers), seen(&self.numbers));
+        let kinds = [
+            ("tapes, shorthands and profiles", &self.tapes, REFUSALS),
+            ("of them tapes without addresses", &self.without_addresses, WITHOUT_ADDRESSES),
+            ("speeds, codes and heads", &self.numbers, &[]),
+        ];
+        let mut well = self.differences == 0;
+        for (kind, counts, due) in kinds {
+            println!("{kind}: {}, seen {}", total(counts), seen(counts));
+            well &= seen_often(kind, counts, due, LEAST);
+        }
         println!("odd holes in rows of a sound tape: {}, each 5 at the first of them", self.odd_holes);
-        let often = seen_often("tapes and shorthands", &self.tapes, REFUSALS, LEAST);
         println!("{} differences", self.differences);
-        self.differences == 0 && often
+        well
     }
 }

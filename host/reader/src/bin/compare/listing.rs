@@ -1,9 +1,11 @@
-//! By the listing program: what it prints for each input.
+//! By the listing program: what it prints for each input and argument.
 
 use super::{seen, tell, worker_failed, Order, Seen, Turns};
 use second_opinion::listing::listing;
-use second_opinion::trial::inputs;
+use second_opinion::trial::inputs::{self, Listed};
 use std::error::Error;
+use std::ffi::OsStr;
+use std::os::unix::ffi::OsStrExt;
 use std::sync::Mutex;
 
 pub fn compare(order: &Order) -> Result<bool, Box<dyn Error>> {
@@ -12,9 +14,9 @@ pub fn compare(order: &Order) -> Result<bool, Box<dyn Error>> {
     let turns = Turns::over(&all);
     let tally = Mutex::new(Tally::default());
     order.at_once(|| {
-        while let Some((_, (input, known))) = turns.take() {
-            let found = order.run(input)?.stdout;
-            tally.lock().map_err(|_| worker_failed())?.take(input, known, &found);
+        while let Some((_, listed)) = turns.take() {
+            let found = order.run(listed.profile.as_deref().map(OsStr::from_bytes), &listed.input)?.stdout;
+            tally.lock().map_err(|_| worker_failed())?.take(listed, &found);
         }
         Ok(())
     })?;
@@ -32,8 +34,8 @@ struct Tally {
 }
 
 impl Tally {
-    fn take(&mut self, input: &[u8], known: &Option<String>, found: &[u8]) {
-        let reader = listing(input, b"");
+    fn take(&mut self, Listed { input, profile, known }: &Listed, found: &[u8]) {
+        let reader = listing(input, profile.as_deref().unwrap_or(b""));
         self.compared += 1;
         let number = reader.strip_prefix("refused ").and_then(|rest| rest.split(' ').next()?.parse().ok());
         self.seen[number.unwrap_or(0)] += 1;
@@ -43,7 +45,8 @@ impl Tally {
         self.differences += 1;
         tell(
             format_args!(
-                "input of {} bytes: {}\ninput in hex: {}\nprogram: {}\nreader:  {}",
+                "argument {:?}, input of {} bytes: {}\ninput in hex: {}\nprogram: {}\nreader:  {}",
+                profile.as_deref().map(OsStr::from_bytes),
                 input.len(),
                 inputs::readable(input),
                 inputs::hex(input),

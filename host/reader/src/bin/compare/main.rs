@@ -5,6 +5,7 @@ mod listing;
 mod vectors;
 
 use std::error::Error;
+use std::ffi::OsStr;
 use std::fmt;
 use std::io::{self, Write};
 use std::process::{Command, ExitCode, Output, Stdio};
@@ -26,8 +27,8 @@ fn main() -> ExitCode {
     }
 }
 
-/// How often each number was seen, refusals 1 to 21 and success.
-type Seen = [u64; 22];
+/// How often each number was seen, refusals 1 to 23 and success.
+type Seen = [u64; 24];
 
 /// Makes the inputs of one batch from its seed.
 type Batch<'a, T> = Box<dyn Fn(u64) -> Vec<T> + Sync + 'a>;
@@ -90,10 +91,11 @@ impl Order {
         })
     }
 
-    /// Runs the command with `input` on its standard input.
-    fn run(&self, input: &[u8]) -> io::Result<Output> {
-        let mut child =
-            Command::new(&self.command[0]).args(&self.command[1..]).stdin(Stdio::piped()).stdout(Stdio::piped()).spawn()?;
+    /// Runs the command with one more argument, if any, and `input` on its standard input.
+    fn run(&self, argument: Option<&OsStr>, input: &[u8]) -> io::Result<Output> {
+        let mut command = Command::new(&self.command[0]);
+        command.args(&self.command[1..]).args(argument);
+        let mut child = command.stdin(Stdio::piped()).stdout(Stdio::piped()).spawn()?;
         let stdin = child.stdin.take();
         // the input is written beside the reading, or both pipes could be full
         thread::scope(|scope| {

@@ -10,8 +10,13 @@ use std::sync::Mutex;
 /// How many lines the program is started for, as an emulated one takes long to start.
 const BATCH: usize = 10_000;
 /// What must be seen of the answers to a kind of line, and how often.
-const LEAST: &[(u8, &[usize], u64)] =
-    &[(b'J', &[0, 1, 2, 3, 16, 17, 18, 19], 500), (b'W', &[0, 15], 100), (b'P', &[0, 15], 100), (b'F', &[0, 1, 2, 3], 100)];
+const LEAST: &[(u8, &[usize], u64)] = &[
+    (b'J', &[0, 1, 2, 3, 16, 17, 18, 19], 500),
+    (b'J', &[22, 23], 200),
+    (b'W', &[0, 15], 100),
+    (b'P', &[0, 15], 100),
+    (b'F', &[0, 1, 2, 3], 100),
+];
 
 pub fn compare(order: &Order) -> Result<bool, Box<dyn Error>> {
     let batches = batches(order.inputs);
@@ -45,7 +50,7 @@ fn batches(records: usize) -> Vec<Batch<'static, Posed>> {
 /// Asks a batch of lines and compares what comes back.
 fn ask(order: &Order, batch: &[Posed]) -> io::Result<Tally> {
     let texts: Vec<Vec<u8>> = batch.iter().map(|posed| posed.line.text()).collect();
-    let output = order.run(&texts.iter().flat_map(|text| [text, &b"\n"[..]].concat()).collect::<Vec<u8>>())?;
+    let output = order.run(None, &texts.iter().flat_map(|text| [text, &b"\n"[..]].concat()).collect::<Vec<u8>>())?;
     let written: Vec<&[u8]> = output.stdout.split(|&byte| byte == b'\n').collect();
     let mut tally = Tally::default();
     // nothing stands behind the last line's end
