@@ -3,6 +3,7 @@
 use super::chance::Chance;
 use super::inputs::{self, bad_text, either_edition, lent, strange_edition, Answer, Ask, Input};
 use super::misplaced::{self, Slipped};
+use super::profiles;
 use super::programs;
 use super::records::{self, Handed};
 use crate::punching::{Record, Word, CLEARED};
@@ -27,12 +28,16 @@ pub enum Line {
         /// its text
         shorthand: Vec<u8>,
     },
+    /// G: the Format under a profile
+    Agreed(Specification),
     /// W: block n as a record
     Block(Nth),
     /// P: the rows of block n
     Rows(Nth),
     /// J: a record punched
     Punch(Box<Handed>),
+    /// a line that is spelt as it would not be by itself
+    Spelt(&'static str, Box<Line>),
     /// a line that asks nothing
     Remark(Vec<u8>),
 }
@@ -81,12 +86,16 @@ impl Line {
             Line::Call(Ask::Code { digits, speed }) => format!("C {digits} {speed}").into_bytes(),
             Line::Call(Ask::Head { length, first }) => format!("H {length} {first}").into_bytes(),
             Line::Format { edition, shorthand } => [format!("F {edition} ").as_bytes(), shorthand].concat(),
+            Line::Agreed(Specification { edition, shorthand, profile }) => {
+                [format!("G {edition} ").as_bytes(), shorthand, b"|", profile, b"|"].concat()
+            }
             Line::Block(nth) => nth.text('W'),
             Line::Rows(nth) => nth.text('P'),
             Line::Punch(handed) => {
                 let Handed { specification, room, first, record } = &**handed;
                 judged('J', specification, &format!("{room} {first} {}", record_text(record)))
             }
+            Line::Spelt(text, _) => text.as_bytes().to_vec(),
             Line::Remark(text) => text.clone(),
         }
     }
@@ -96,6 +105,7 @@ impl Line {
         Some(match self {
             Line::Call(ask) => called(ask),
             Line::Format { edition, shorthand } => formed(*edition, parse(*edition, shorthand)),
+            Line::Agreed(specification) => formed(specification.edition, specification.format()),
             Line::Block(Nth { specification, n, tape }) => {
                 let block = specification.format().and_then(|format| read_block(&format, tape, *n));
                 let none = Block { opening: Opening { skip: false, alignment: false, sequence: 0 }, words: Vec::new() };
@@ -111,6 +121,7 @@ impl Line {
                 let count = punch_block(specification, record, &mut buffer);
                 handed_back(count, 0, |count| buffer_text(count, &buffer))
             }
+            Line::Spelt(_, line) => return line.answer(),
             Line::Remark(_) => return None,
         })
     }
@@ -348,12 +359,42 @@ fn format(chance: &mut Chance) -> Line {
     Line::Format { edition, shorthand }
 }
 
+/// `size` specifications: sound, with a faulty or damaged profile, and such that no profile is looked at.
+pub fn agreements(seed: u64, size: usize) -> Vec<Posed> {
+    let chance = &mut Chance::new(seed);
+    (0..size).map(|_| agreement(chance)).collect()
+}
+
+fn agreement(chance: &mut Chance) -> Posed {
+    let plan = programs::plan(chance);
+    let mut specification = plan.specification.clone();
+    let mut known = None;
+    match chance.below(16) {
+        0 => specification.edition = strange_edition(chance),
+        1 => specification.edition = either_edition(chance),
+        2 | 3 => specification.shorthand = bad_text(chance, specification.shorthand),
+        4 => {
+            let slipped = misplaced::slipped(chance);
+            (specification, known) = (slipped.specification, Some(slipped.refusal));
+        }
+        5..=7 => {
+            let (profile, refusal) = profiles::faulty(chance, &plan);
+            (specification.profile, known) = (profile, Some(refusal));
+        }
+        8 => specification.profile = profiles::damaged(chance, &plan),
+        9 => specification.profile = profiles::any(chance, &plan),
+        _ => {}
+    }
+    make_sayable(&mut specification);
+    Posed { line: Line::Agreed(specification), known: known.map(told) }
+}
+
 /// Codes, speeds and heads: all edges, and `size` random ones.
 pub fn numbers(seed: u64, size: usize) -> Vec<Posed> {
     inputs::numbers(seed, size).into_iter().map(|input| Posed::of(Line::Call(input.ask))).collect()
 }
 
-/// Lines that ask nothing, and tapes whose lines are as long as may be, or one byte longer.
+/// Lines that ask nothing, bars at their edges, and tapes whose lines are as long as may be, or one byte longer.
 pub fn edges() -> Vec<Posed> {
     let remarks = ["", "#", "# a remark", " B 1057 N3* %~", "b 1057 N3* %~", "BB 1057 N3* %~", "B1057 N3* %~", "1 2", "~"];
     let mut lines: Vec<Line> = remarks.iter().map(|text| Line::Remark(text.as_bytes().to_vec())).collect();
@@ -362,7 +403,23 @@ pub fn edges() -> Vec<Posed> {
         tape.resize(bytes - "B 1057 N3* ".len(), NUL);
         lines.push(Line::Call(Ask::Count { specification: Specification::new(1057, "N3*", ""), tape }));
     }
+    lines.extend(bars());
     lines.into_iter().map(Posed::of).collect()
+}
+
+/// No profile between two bars, or without any, and a profile that the line's end ends.
+fn bars() -> Vec<Line> {
+    let under = |profile| Specification::new(2539, "N3.X42*", profile);
+    let count = |profile, tape| Line::Call(Ask::Count { specification: under(profile), tape });
+    let spelt = |text, line| Line::Spelt(text, Box::new(line));
+    vec![
+        spelt("G 2539 N3.X42*", Line::Agreed(under(""))),
+        spelt("G 2539 N3.X42*|", Line::Agreed(under(""))),
+        spelt("G 2539 N3.X42*|LTM 111 A", Line::Agreed(under("LTM 111 A"))),
+        spelt("B 2539 N3.X42*|| %~", count("", vec![punched(b'%'), punched(LF)])),
+        spelt("B 2539 N3.X42*|LTM 111 A", count("LTM 111 A", Vec::new())),
+        spelt("B 2539 N3.X42*|LTM 111 A|", count("LTM 111 A", Vec::new())),
+    ]
 }
 
 #[cfg(test)]
@@ -419,6 +476,20 @@ mod tests {
         assert_eq!(format(2539, "N3X+040*"), "F 2539 N3X+040* -> 2 2 0 plain 0");
         assert_eq!(format(1057, "N3.X+042*"), "F 1057 N3.X+042* -> 3 2 0 plain 0");
         assert_eq!(format(1, ""), "F 1  -> 1 0 0 plain 0");
+    }
+
+    #[test]
+    fn formats_under_profiles() {
+        let agreed = |edition, shorthand, profile| written(Line::Agreed(Specification::new(edition, shorthand, profile)));
+        let asked = |rest: &str| format!("G 2539 N3.G2.X+042*|{rest}");
+        let under = |profile| agreed(2539, "N3.G2.X+042*", profile);
+        assert_eq!(under("LTM110A"), asked("LTM110A| -> 0 0 3 tabs 2 GP2 XD+4.2Lb"));
+        assert_eq!(under("LSM 110 A"), asked("LSM 110 A| -> 0 0 3 dots 2 GP2 XD+4.2Lb"));
+        assert_eq!(under(""), asked("| -> 0 0 3 dots 2 GP2 XD+4.2Lb"));
+        assert_eq!(under("LTM110"), asked("LTM110| -> 22 6 0 plain 0"));
+        assert_eq!(under("LAM110A"), asked("LAM110A| -> 23 0 0 plain 0"));
+        assert_eq!(agreed(2539, "N4*", "PTM000B"), "G 2539 N4*|PTM000B| -> 0 0 4 plain 0");
+        assert_eq!(agreed(1057, "N4*", "?"), "G 1057 N4*|?| -> 3 0 0 plain 0");
     }
 
     #[test]
@@ -486,7 +557,8 @@ mod tests {
         for posed in edges() {
             let text = posed.line.text();
             let reply = posed.reply(&text);
-            assert_eq!(reply.is_some(), text.starts_with(b"B 1057 ") && text.len() <= MOST_BYTES);
+            let asks = [&b"B 1057 "[..], b"B 2539 ", b"G 2539 "].iter().any(|start| text.starts_with(start));
+            assert_eq!(reply.is_some(), asks && text.len() <= MOST_BYTES);
         }
     }
 }

@@ -16,6 +16,7 @@ const LEAST: &[(u8, &[usize], u64)] = &[
     (b'W', &[0, 15], 100),
     (b'P', &[0, 15], 100),
     (b'F', &[0, 1, 2, 3], 100),
+    (b'G', &[0, 22, 23], 100),
 ];
 
 pub fn compare(order: &Order) -> Result<bool, Box<dyn Error>> {
@@ -33,13 +34,16 @@ pub fn compare(order: &Order) -> Result<bool, Box<dyn Error>> {
     Ok(tally.into_inner()?.report())
 }
 
-/// The batches, each made when its turn comes: records, and a part as many tapes, shorthands and numbers.
+/// The batches, each made when its turn comes: records, and a part as many tapes, shorthands, profiles and numbers.
 fn batches(records: usize) -> Vec<Batch<'static, Posed>> {
     let mut batches: Vec<Batch<Posed>> =
         vec![Box::new(|_| lines::edges()), Box::new(move |seed| lines::numbers(seed, records / 5))];
-    for (make, size) in
-        [(lines::punchings as fn(u64, usize) -> Vec<Posed>, records), (lines::tapes, records / 5), (lines::formats, records / 10)]
-    {
+    for (make, size) in [
+        (lines::punchings as fn(u64, usize) -> Vec<Posed>, records),
+        (lines::tapes, records / 5),
+        (lines::formats, records / 10),
+        (lines::agreements, records / 10),
+    ] {
         for first in (0..size).step_by(BATCH) {
             batches.push(Box::new(move |seed| make(seed, BATCH.min(size - first))));
         }
