@@ -13,8 +13,20 @@ use std::process::ExitCode;
 const USAGE: &str = "usage: bench [--repeats N] -- COMMAND...";
 const SEED: u64 = 2539;
 
-/// The formats timed: with tabs and every digit, and without tabs and with zeros dropped.
-const FORMATS: [(u32, &str); 2] = [(1057, "N3.G2.X+42.Y+42.Z+42.F3.S3.T2.M2*"), (2539, "N4G2X+042Y+042Z+420I+042J+042F4S4T2M2*")];
+/// What is timed: a specification, and how the blocks of its tape are made.
+struct Timed {
+    edition: u32,
+    shorthand: &'static str,
+    profile: &'static str,
+    block: fn(&mut Chance, &mut String),
+}
+
+/// With tabs and every digit; without tabs and with zeros dropped; as the first, but without addresses.
+const TIMED: [Timed; 3] = [
+    Timed { edition: 1057, shorthand: "N3.G2.X+42.Y+42.Z+42.F3.S3.T2.M2*", profile: "", block: tabbed_block },
+    Timed { edition: 2539, shorthand: "N4G2X+042Y+042Z+420I+042J+042F4S4T2M2*", profile: "", block: dropped_block },
+    Timed { edition: 2539, shorthand: "N3.G2.X+42.Y+42.Z+42.F3.S3.T2.M2*", profile: "LTM333A", block: bare_block },
+];
 
 fn main() -> ExitCode {
     match run() {
@@ -41,10 +53,10 @@ fn run() -> Result<(), Box<dyn Error>> {
     println!(
         "seed {SEED}; each time is the processor's, the shortest of {repeats} rounds of {RUNS}; a ratio is the library's time over the reader's"
     );
-    for (edition, shorthand) in FORMATS {
-        println!("\n{edition} {shorthand}");
-        timer.stages(edition, shorthand)?;
-        timer.growth(edition, shorthand)?;
+    for timed in &TIMED {
+        println!("\n{}", format!("{} {} {}", timed.edition, timed.shorthand, timed.profile).trim_end());
+        timer.stages(timed)?;
+        timer.growth(timed)?;
     }
     timer.door.close()?;
     Ok(())
@@ -92,8 +104,9 @@ const RUNS: u64 = 2;
 impl Timer {
     /// Times both on one tape, in rounds, so that a machine whose speed changes is as fast for the one as for the
     /// other; they must agree on the answer.
-    fn time(&mut self, edition: u32, shorthand: &str, tape: Vec<u8>) -> Result<(Times, u64), Box<dyn Error>> {
-        let ask = Ask::Count { specification: Specification::new(edition, shorthand, ""), tape };
+    fn time(&mut self, timed: &Timed, tape: Vec<u8>) -> Result<(Times, u64), Box<dyn Error>> {
+        let specification = Specification::new(timed.edition, timed.shorthand, timed.profile);
+        let ask = Ask::Count { specification, tape };
         let (mut library, mut reader, mut number) = (f64::INFINITY, f64::INFINITY, 0);
         let mut ratios = Vec::new();
         for _ in 0..self.repeats {
@@ -117,9 +130,9 @@ impl Timer {
 
     /// A fault that only stage 3 sees ends the work there: in the first row when stages 1 and 2 have passed the tape,
     /// in the last row when stage 3 has too.
-    fn stages(&mut self, edition: u32, shorthand: &str) -> Result<(), Box<dyn Error>> {
+    fn stages(&mut self, timed: &Timed) -> Result<(), Box<dyn Error>> {
         println!("rows per second on {MOST_ROWS} rows, each stage by itself:");
-        let sound = tape(edition, MOST_ROWS);
+        let sound = timed.tape(MOST_ROWS);
         let last = sound.len() - 1;
         let mut before = Times { library: 0.0, reader: 0.0, ratio: 0.0 };
         let faults = [("1 and 2, rows", Some((0, b')'))), ("3, control-outs", Some((last, b'('))), ("4, blocks", None)];
@@ -128,7 +141,7 @@ impl Timer {
             if let Some((place, character)) = fault {
                 rows[place] = punched(character);
             }
-            let (times, found) = self.time(edition, shorthand, rows)?;
+            let (times, found) = self.time(timed, rows)?;
             if found != fault.map_or(0, |_| 7) {
                 return Err(format!("stage {name} ended with {found}").into());
             }
@@ -149,10 +162,10 @@ impl Timer {
         Ok(())
     }
 
-    fn growth(&mut self, edition: u32, shorthand: &str) -> Result<(), Box<dyn Error>> {
+    fn growth(&mut self, timed: &Timed) -> Result<(), Box<dyn Error>> {
         println!("nanoseconds for a row as the tape grows:");
         for rows in [10_000, 100_000, MOST_ROWS] {
-            let (times, _) = self.time(edition, shorthand, tape(edition, rows))?;
+            let (times, _) = self.time(timed, timed.tape(rows))?;
             let each = |time: f64| time / rows as f64;
             println!(
                 "  {rows:>9} rows   library {:>7.3}  reader {:>7.3}  ratio {:.2}",
@@ -175,26 +188,24 @@ fn speed(nanoseconds: f64) -> String {
     }
 }
 
-/// A sound tape of `length` rows with mixed words, a remark now and then, and NUL up to its length.
-fn tape(edition: u32, length: usize) -> Vec<u8> {
-    let chance = &mut Chance::new(SEED);
-    let mut text = String::from("%\r\n");
-    loop {
-        let before = text.len();
-        if edition == 1057 {
-            tabbed_block(chance, &mut text);
-        } else {
-            dropped_block(chance, &mut text);
+impl Timed {
+    /// A sound tape of `length` rows with mixed words, a remark now and then, and NUL up to its length.
+    fn tape(&self, length: usize) -> Vec<u8> {
+        let chance = &mut Chance::new(SEED);
+        let mut text = String::from("%\r\n");
+        loop {
+            let before = text.len();
+            (self.block)(chance, &mut text);
+            // the last row is a NUL, which any stage's fault can take the place of
+            if text.len() >= length {
+                text.truncate(before);
+                break;
+            }
         }
-        // the last row is a NUL, which any stage's fault can take the place of
-        if text.len() >= length {
-            text.truncate(before);
-            break;
-        }
+        let mut rows: Vec<u8> = text.bytes().map(punched).collect();
+        rows.resize(length, 0);
+        rows
     }
-    let mut rows: Vec<u8> = text.bytes().map(punched).collect();
-    rows.resize(length, 0);
-    rows
 }
 
 fn opening(chance: &mut Chance, text: &mut String, digits: usize) {
@@ -213,6 +224,14 @@ fn end(chance: &mut Chance, text: &mut String) {
 }
 
 fn tabbed_block(chance: &mut Chance, text: &mut String) {
+    tabbed(chance, text, true);
+}
+
+fn bare_block(chance: &mut Chance, text: &mut String) {
+    tabbed(chance, text, false);
+}
+
+fn tabbed(chance: &mut Chance, text: &mut String, addresses: bool) {
     opening(chance, text, 3);
     let words = 1 + chance.below(8);
     for letter in "GXYZFSTM".chars().take(words) {
@@ -220,10 +239,11 @@ fn tabbed_block(chance: &mut Chance, text: &mut String) {
         if chance.happens(1, 4) {
             continue;
         }
+        text.extend(addresses.then_some(letter));
         let _ = match letter {
-            'X' | 'Y' | 'Z' => write!(text, "{letter}{}{:06}", sign(chance), chance.below(1_000_000)),
-            'F' | 'S' => write!(text, "{letter}{}", code(chance, 3)),
-            _ => write!(text, "{letter}{:02}", chance.below(100)),
+            'X' | 'Y' | 'Z' => write!(text, "{}{:06}", sign(chance), chance.below(1_000_000)),
+            'F' | 'S' => write!(text, "{}", code(chance, 3)),
+            _ => write!(text, "{:02}", chance.below(100)),
         };
     }
     end(chance, text);
