@@ -81,7 +81,7 @@ impl Plan {
 pub fn plan(chance: &mut Chance) -> Plan {
     let plan = sketch(chance).plan();
     match General::drawn(chance, &plan) {
-        Some(profile) if chance.happens(4, 7) => plan.under(&profile),
+        Some(profile) if chance.happens(2, 3) => plan.under(&profile),
         _ => plan,
     }
 }
@@ -95,8 +95,8 @@ pub(super) fn sketch(chance: &mut Chance) -> Sketch {
     let density = chance.below(11);
     let sparse = if chance.happens(1, 4) { chance.below(3) } else { density };
     let dense = density.max(chance.below(11));
-    // now and then no incremental dimension, or no other
-    let marks = chance.one_of(&[MARKS, MARKS, &MARKS[..2], &MARKS[2..]]);
+    // now and then no incremental dimension, or no other; I, J and K by themselves, as they are no positions
+    let [marks, marks_of_ijk] = [(); 2].map(|()| chance.one_of(&[MARKS, MARKS, &MARKS[..2], &MARKS[2..]]));
     // which of E and D are feeds; the others are dimensions
     let second = chance.one_of(&[&b""[..], b"E", b"D", b"DE", b"DE", b"DE"]);
     let first: Vec<u8> = DIMENSIONS.iter().copied().filter(|letter| !second.contains(letter)).collect();
@@ -117,7 +117,7 @@ pub(super) fn sketch(chance: &mut Chance) -> Sketch {
     let mut items: Vec<Drawn> = Vec::new();
     items.extend(some_of(chance, b"G", density).iter().map(|&letter| plain(chance, letter)));
     for (&letter, own) in dimensions.iter().zip(own) {
-        items.push(dimension(chance, letter, newer, marks));
+        items.push(dimension(chance, letter, newer, if b"IJK".contains(&letter) { marks_of_ijk } else { marks }));
         items.extend(own.map(|letter| speed(chance, letter)));
     }
     items.extend(feeds.iter().map(|&letter| speed(chance, letter)));
