@@ -2,22 +2,17 @@
 use mathlib.Core.Path.{_≡_, refl}
 use mathlib.Core.Bool.{Bool, true, false, cond}
 use mathlib.Core.List.{List, [], _∷_}
-use mathlib.Core.Logic.{_⊎_, inl, inr}
-use Prim.Native.Nat.{ℕ, suc, _+_, _≤_, _<_}
+use Prim.Native.Nat.{ℕ, _+_, _≤_, _<_}
 use native.Mathlib.Numerals.{add-one}
 use native.Mathlib.Omega.{arith}
 use lib.ListN.{length, getD, drop, drop-of-length-le}
 use lib.Seq.{drop-cons}
-use borrow.Author.Tests.{ne-eqb}
 use Rattle.rows.specs.Row.{character}
 use Rattle.rows.specs.Stages.{lowest, step, unclosed, scan}
 use Rattle.rows.specs.Kept.{within, stays, turn, keptFrom}
-use Rattle.rows.specs.declared.Found.{Found}
 use Rattle.rows.specs.declared.Found.the-variants.{Nowhere, At}
 use Rattle.rows.specs.declared.Side.{Side}
-use Rattle.rows.specs.declared.Side.the-variants.{Outside}
 use Rattle.rows.specs.declared.Step.the-variants.{On, Fault}
-use Rattle.rows.specs.declared.Turn.{Turn}
 use Rattle.rows.specs.declared.Turn.the-variants.{Keep, Pass}
 
 -- what a turn tells of the row
@@ -28,11 +23,6 @@ kept-row false x e = let z : _≡_ {A = ℕ} 0 1 = cc in absurd (omega arith)
 passed-row : (b x v : Bool) → cond b Keep (Pass x) ≡ Pass v → (b ≡ false) × (x ≡ v)
 passed-row true x v e = let z : _≡_ {A = ℕ} 0 1 = cc in absurd (omega arith)
 passed-row false x v e = (refl, cc)
-
--- outside, a row that is neither "(" nor ")" changes nothing
-pub plain-outside : (i c : ℕ) → (c < 40) ⊎ (42 ≤ c) → step Outside i c ≡ On Outside
-plain-outside i c (inl h) = rw (ne-eqb c 40 (λ e. omega (arith, h, e)), ne-eqb c 41 (λ e. omega (arith, h, e)))
-plain-outside i c (inr h) = rw (ne-eqb c 40 (λ e. omega (arith, h, e)), ne-eqb c 41 (λ e. omega (arith, h, e)))
 
 module _ (t : List ℕ) (i : ℕ) where
   pub lowest-hit : (f : ℕ → Bool) → i < length t → f (getD t i 0) ≡ true → lowest f i (drop i t) ≡ At i

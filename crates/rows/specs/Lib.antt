@@ -2,6 +2,7 @@
 pub mod Answer
 pub mod Row
 pub mod Stages
+pub mod Walk
 pub mod Kept
 pub mod ControlOut
 pub mod Passes

@@ -1,6 +1,6 @@
 -- The first three stages of reading as one answer, in document 01's order ("Four stages", refusals 4 to 7).
 use Prim.Native.Nat.{ℕ, suc, _+_}
-use mathlib.Core.Bool.{Bool, true, false, _||_, cond}
+use mathlib.Core.Bool.{Bool, _||_, cond}
 use mathlib.Core.List.{List, [], _∷_}
 use lib.ListN.{length}
 use lib.Dec.{eqb, ltb}
@@ -69,11 +69,3 @@ inLimit t = cond (ltb limit (length t)) (refused 4 limit) (taken tt)
 -- 4, then 5, then 6, then 7; a stage starts only when the one before has passed the whole tape
 unfoldable pub judged : List ℕ → Answer (Unit {0})
 judged t = inLimit t >> refuseAt 5 (barred 5 0 t) >> refuseAt 6 (barred 6 0 t) >> refuseAt 7 (scan Outside 0 t)
-
--- 5 and then 6 of the rows t, counted from i, and what is answered otherwise
-unfoldable pub rowsThen : ℕ → List ℕ → Answer (Unit {0}) → Answer (Unit {0})
-rowsThen i t otherwise = refuseAt 5 (barred 5 i t) >> refuseAt 6 (barred 6 i t) >> otherwise
-
--- 5, 6 and 7 of the rows t, counted from i, where the scan of control-outs stands on a side
-abbrev pub judgedFrom : Side → ℕ → List ℕ → Answer (Unit {0})
-judgedFrom m i t = rowsThen i t (refuseAt 7 (scan m i t))

@@ -1,12 +1,10 @@
 // Rows and characters: the table of all 256 rows, the first three stages of reading, and the rows that are kept.
 ghost use mathlib.Core.Path.{_≡_};
-ghost use mathlib.Core.Bool.{_&&_};
-ghost use Prim.Native.Nat.{_+_, _≤_};
-ghost use lib.Dec.{leb};
-ghost use lib.ListN.{drop};
+ghost use Prim.Native.Nat.{_+_};
 ghost use Rattle.rows.specs.Answer.{told};
 ghost use Rattle.rows.specs.Row.{entry, Tabulated, even};
-ghost use Rattle.rows.specs.Stages.{lowest, step, unclosed, rowsThen, judgedFrom, judged};
+ghost use Rattle.rows.specs.Stages.{step, unclosed, judged};
+ghost use Rattle.rows.specs.Walk.{inside, heldFrom, concluded, heldBehind, Marked};
 ghost use Rattle.rows.specs.Kept.{turn, keptAt, firstOf};
 
 mod table;
@@ -41,6 +39,20 @@ pub enum Side {
 pub enum Step {
     On(Side),
     Fault(usize),
+}
+
+// What the walk holds of the rows behind it, none of which is odd: the lowest that is not one of the 50; or else the lowest fault of the control-outs; or else
+// where their scan stands.
+enum Held {
+    Foreign(usize),
+    Fault(usize),
+    Sides(Side),
+}
+
+// A row that may change what is held, with its entry.
+enum Mark {
+    End,
+    At(usize, u8),
 }
 
 // What the walk over kept rows does at a row: keep it, or pass it by, the next row inside a control-out or not.
@@ -96,22 +108,6 @@ pub fn entry_of(row: u8) -> u8
     look_up(&table[..], row)
 }
 
-// The lowest row from a place on whose entry is within a range.
-fn find_entry(tape: &[u8], table: &[u8], from: usize, least: u8, most: u8) -> Found
-    requires { ⌜ Tabulated (now table) ⌝ }
-    ensures { λ r. ⌜ r ≡ lowest (λ b. leb least (entry b) && leb (entry b) most) from (drop from (now (tape .entry))) ⌝ }
-{
-    let mut i = from;
-    while i < tape.len() {
-        let entry = look_up(table, tape[i]);
-        if least <= entry && entry <= most {
-            return Found::At(i);
-        }
-        i += 1;
-    }
-    Found::Nowhere
-}
-
 // One row of the scan for control-outs.
 fn step_over(side: Side, i: usize, c: u8) -> Step
     ensures { λ r. ⌜ r ≡ step side i c ⌝ }
@@ -144,93 +140,103 @@ fn left_open(side: Side) -> Found
     }
 }
 
-// The next row from a place on that is odd, foreign, "(" or ")", or the end of the tape: outside, the walk passes all before it by.
-fn find_mark(tape: &[u8], table: &[u8], at: usize) -> usize
-    requires { ⌜ Tabulated (now table) ⌝ }
-    ensures on { λ r. ⌜ at ≤ r ⌝ }
-    ensures same { λ r. ⌜ judgedFrom Side.Outside at (drop at (now (tape .entry))) ≡ judgedFrom Side.Outside r (drop r (now (tape .entry))) ⌝ }
+// Whether every row counts: inside a control-out ":" and "%" do too, and there are few such rows.
+fn is_inside(held: Held) -> bool
+    ensures { λ r. ⌜ r ≡ inside held ⌝ }
 {
+    match held {
+        Held::Foreign(_) => false,
+        Held::Fault(_) => false,
+        Held::Sides(side) => match side {
+            Side::Outside => false,
+            Side::Inside(_) => true,
+            Side::Spoilt(_, _) => true,
+        },
+    }
+}
+
+// The next row from a place on that may change what is held, or the end of the tape. Here, and nowhere else, the walk reads the tape: the entry goes on with
+// the place, so that no row is fetched again.
+fn find_mark(tape: &[u8], table: &[u8], held: Held, at: usize) -> Mark
+    requires { ⌜ Tabulated (now table) ⌝ }
+    ensures { λ r. ⌜ Marked (now (tape .entry)) held at r ⌝ }
+{
+    let every = is_inside(held);
     let mut i = at;
     while i < tape.len() {
-        let c = look_up(table, tape[i]);
-        if ODD <= c {
-            return i;
+        let entry = look_up(table, tape[i]);
+        if every {
+            return Mark::At(i, entry);
         }
-        match c {
+        if ODD <= entry {
+            return Mark::At(i, entry);
+        }
+        match entry {
             40 | 41 => {
-                return i;
+                return Mark::At(i, entry);
             }
             _ => {}
         }
         i += 1;
     }
-    i
+    Mark::End
 }
 
-// The next row that the walk has to look at.
-fn pass_plain(tape: &[u8], table: &[u8], side: Side, at: usize) -> usize
-    requires { ⌜ Tabulated (now table) ⌝ }
-    ensures on { λ r. ⌜ at ≤ r ⌝ }
-    ensures same { λ r. ⌜ judgedFrom side at (drop at (now (tape .entry))) ≡ judgedFrom side r (drop r (now (tape .entry))) ⌝ }
+// What is held behind a row that is not odd: 6 before 7, and of each the lowest row.
+fn hold_mark(held: Held, i: usize, entry: u8) -> Held
+    ensures { λ r. ⌜ r ≡ heldBehind held i entry ⌝ }
 {
-    match side {
-        Side::Outside => find_mark(tape, table, at),
-        Side::Inside(_) => at,
-        Side::Spoilt(_, _) => at,
+    match held {
+        Held::Foreign(_) => held,
+        Held::Fault(_) => {
+            if entry == FOREIGN {
+                Held::Foreign(i)
+            } else {
+                held
+            }
+        }
+        Held::Sides(side) => {
+            if entry == FOREIGN {
+                return Held::Foreign(i);
+            }
+            match step_over(side, i, entry) {
+                Step::On(m) => Held::Sides(m),
+                Step::Fault(p) => Held::Fault(p),
+            }
+        }
     }
 }
 
-// 5 and then 6 of the rows from a place on, and what is answered otherwise.
-fn check_rows(tape: &[u8], table: &[u8], from: usize, otherwise: Checked) -> Checked
-    requires { ⌜ Tabulated (now table) ⌝ }
-    ensures { λ r. ⌜ told r ≡ rowsThen from (drop from (now (tape .entry))) (told otherwise) ⌝ }
+// The answer where no row is left.
+fn conclude(held: Held) -> Checked
+    ensures { λ r. ⌜ told r ≡ concluded held ⌝ }
 {
-    let Found::At(place) = find_entry(tape, table, from, ODD, FOREIGN) else {
-        return otherwise;
-    };
-    if look_up(table, tape[place]) == ODD {
-        return Checked::Refused(Refusal { number: 5, place });
+    match held {
+        Held::Foreign(place) => Checked::Refused(Refusal { number: 6, place }),
+        Held::Fault(place) => Checked::Refused(Refusal { number: 7, place }),
+        Held::Sides(side) => match left_open(side) {
+            Found::Nowhere => Checked::Clean,
+            Found::At(place) => Checked::Refused(Refusal { number: 7, place }),
+        },
     }
-    if let Found::At(odd) = find_entry(tape, table, place + 1, ODD, ODD) {
-        return Checked::Refused(Refusal {
-            number: 5,
-            place: odd,
-        });
-    }
-    Checked::Refused(Refusal { number: 6, place })
 }
 
-// 5, 6 and 7 in one walk: from an odd or foreign row on only 5 and 6 can be the answer, and behind a fault of the control-outs they come before it.
+// 5, 6 and 7 in one walk, which fetches each row once: the first odd row is the answer at once, all else is held to the end of the tape.
 fn walk_rows(tape: &[u8], table: &[u8]) -> Checked
     requires { ⌜ Tabulated (now table) ⌝ }
-    ensures { λ r. ⌜ told r ≡ judgedFrom Side.Outside 0 (now (tape .entry)) ⌝ }
+    ensures { λ r. ⌜ told r ≡ heldFrom (Held.Sides Side.Outside) 0 (now (tape .entry)) ⌝ }
 {
-    let mut side = Side::Outside;
-    let mut i = find_mark(tape, table, 0);
-    while i < tape.len() {
-        let entry = look_up(table, tape[i]);
-        if ODD <= entry {
-            return check_rows(tape, table, i, Checked::Clean);
+    let mut held = Held::Sides(Side::Outside);
+    let mut next: usize = 0;
+    loop {
+        let Mark::At(place, entry) = find_mark(tape, table, held, next) else {
+            return conclude(held);
+        };
+        if entry == ODD {
+            return Checked::Refused(Refusal { number: 5, place });
         }
-        let after = i + 1;
-        match step_over(side, i, entry) {
-            Step::On(m) => {
-                side = m;
-            }
-            Step::Fault(place) => {
-                return check_rows(
-                    tape,
-                    table,
-                    after,
-                    Checked::Refused(Refusal { number: 7, place }),
-                );
-            }
-        }
-        i = pass_plain(tape, table, side, after);
-    }
-    match left_open(side) {
-        Found::Nowhere => Checked::Clean,
-        Found::At(place) => Checked::Refused(Refusal { number: 7, place }),
+        held = hold_mark(held, place, entry);
+        next = place + 1;
     }
 }
 
