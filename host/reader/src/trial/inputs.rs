@@ -127,6 +127,7 @@ pub fn tapes(seed: u64, size: usize) -> Vec<Input> {
             109..=114 => damaged_profile(chance, &mut inputs),
             115 => cut_profiles(chance, &mut inputs),
             116..=120 => other_profile(chance, &mut inputs),
+            121..=128 => faults_of_stages(chance, &mut inputs),
             _ => bad_tape(chance, &mut inputs),
         }
     }
@@ -167,6 +168,25 @@ fn bad_middling_tape(chance: &mut Chance, inputs: &mut Vec<Input>) {
         rows[at] = chance.one_of(&[1, 33, 33, punched(b'('), punched(b')'), punched(b'X')]);
     }
     inputs.push(Input::count(plan.specification, rows));
+}
+
+/// Some faults of the first three stages anywhere on a sound tape: 5 comes before 6, and 6 before 7.
+fn faults_of_stages(chance: &mut Chance, inputs: &mut Vec<Input>) {
+    const ODD: u8 = 1;
+    const FOREIGN: u8 = 33;
+    let plan = programs::plan(chance);
+    let mut rows = programs::tape(chance, &plan, 5).rows;
+    for _ in 0..2 + chance.below(3) {
+        let at = chance.below(rows.len());
+        rows[at] = chance.one_of(&[ODD, FOREIGN, FOREIGN, punched(b'('), punched(b')'), punched(b')')]);
+    }
+    let lowest = |number, fault| rows.iter().position(|&row| row == fault).map(|at| Refusal::new(number, at));
+    let known = lowest(5, ODD).or(lowest(6, FOREIGN));
+    let input = Input::count(plan.specification, rows);
+    inputs.push(match known {
+        Some(refusal) => input.known(Err(refusal)),
+        None => input,
+    });
 }
 
 /// A bad shorthand, which is judged before a profile, and that before the tape.

@@ -125,7 +125,7 @@ impl Tally {
             println!("{kind}: {}, seen {}", total(counts), seen(counts));
             well &= seen_often(kind, counts, due, LEAST);
         }
-        println!("odd holes in rows of a sound tape: {}, each 5 at the first of them", self.odd_holes);
+        println!("odd rows on a sound tape: {}, each 5 at the first of them", self.odd_holes);
         println!("{} differences", self.differences);
         well
     }
