@@ -549,10 +549,10 @@ static int serve(void) {
     return got == 0 ? 0 : 1;
 }
 
-/* ---- timing one tape by hand */
+/* ---- one tape by hand: its time, and the fetches of its rows */
 
 /* The standard input is the listing program's: edition, a space, the shorthand, LF, the rows. */
-static int bench(const char *profile, uint64_t repeats) {
+static struct counted take_tape(const char *profile) {
     struct lent memory = lend(MOST_TAPE);
     uint8_t *text = memory.end - memory.room;
     size_t length = get(text, memory.room);
@@ -568,19 +568,103 @@ static int bench(const char *profile, uint64_t repeats) {
     if (at >= length || at < shorthand) {
         fail("no edition and shorthand");
     }
-    uint64_t shortest;
-    struct counted counted = {edition, {text + shorthand, at - shorthand}, text_slice(profile),
-                              {text + at + 1, length - at - 1}};
-    struct answer answer = timed_count(counted, repeats, &shortest);
+    return (struct counted){edition, {text + shorthand, at - shorthand}, text_slice(profile),
+                            {text + at + 1, length - at - 1}};
+}
+
+static void say_answer(struct answer answer) {
     say("number ");
     say_number(answer.number);
     say(" place ");
     say_number(answer.place);
     say(" value ");
     say_number(answer.value);
+}
+
+static int bench(const char *profile, uint64_t repeats) {
+    uint64_t shortest;
+    say_answer(timed_count(take_tape(profile), repeats, &shortest));
     say(", nanoseconds ");
     say_number(shortest);
     say("\n");
+    return 0;
+}
+
+/* How often each row of the tape was fetched, and whether any load is told at all. */
+static struct slice watched;
+static uint32_t fetched[MOST_TAPE];
+static int told;
+
+static void fetch(const void *from, size_t length) {
+    told = 1;
+    for (size_t byte = 0; byte < length; byte += 1) {
+        uintptr_t row = (uintptr_t)from + byte - (uintptr_t)watched.bytes;
+        if (row < watched.length) {
+            fetched[row] += 1;
+        }
+    }
+}
+
+/* In a library that `host/native fetches` has built, every load calls the one of its width first. */
+void __sanitizer_cov_load1(const void *from) { fetch(from, 1); }
+void __sanitizer_cov_load2(const void *from) { fetch(from, 2); }
+void __sanitizer_cov_load4(const void *from) { fetch(from, 4); }
+void __sanitizer_cov_load8(const void *from) { fetch(from, 8); }
+void __sanitizer_cov_load16(const void *from) { fetch(from, 16); }
+
+static void count_fetches(const char *what, struct counted counted) {
+    memset(fetched, 0, sizeof fetched);
+    watched = counted.tape;
+    struct answer answer = count_blocks(counted);
+    watched = nothing;
+    if (!told) {
+        fail("no load is told: the library is not one of host/native fetches");
+    }
+    uint64_t all = 0, most = 0;
+    for (size_t row = 0; row < counted.tape.length; row += 1) {
+        all += fetched[row];
+        most = fetched[row] > most ? fetched[row] : most;
+    }
+    say(what);
+    say(": rows ");
+    say_number(counted.tape.length);
+    say(", fetches ");
+    say_number(all);
+    say(", of one row at most ");
+    say_number(most);
+    say(", ");
+    say_answer(answer);
+    say("\n");
+}
+
+/* The tape as it is, and with its first or last row changed, so that a refusal tells how far the first three stages came. */
+static int fetches(const char *profile) {
+    enum { OPENS = 40, CLOSES = 169, FOREIGN = 3, ODD = 1, KEPT = -1 };
+    static const struct {
+        const char *what;
+        int first, last;
+    } tapes[] = {
+        {"as it is", KEPT, KEPT},
+        {"\"(\" last", KEPT, OPENS},
+        {"an odd row last", KEPT, ODD},
+        {"a foreign row first", FOREIGN, KEPT},
+        {"a foreign row first, an odd one last", FOREIGN, ODD},
+        {"\")\" first", CLOSES, KEPT},
+        {"\")\" first, a foreign row last", CLOSES, FOREIGN},
+        {"\"(\" first, an odd row last", OPENS, ODD},
+    };
+    struct counted counted = take_tape(profile);
+    struct slice tape = fill(lend(MOST_TAPE), counted.tape);
+    uint8_t *rows = (uint8_t *)tape.bytes;
+    if (tape.length == 0) {
+        fail("a tape of no rows");
+    }
+    for (size_t at = 0; at < sizeof tapes / sizeof tapes[0]; at += 1) {
+        memcpy(rows, counted.tape.bytes, tape.length);
+        rows[0] = tapes[at].first == KEPT ? rows[0] : (uint8_t)tapes[at].first;
+        rows[tape.length - 1] = tapes[at].last == KEPT ? rows[tape.length - 1] : (uint8_t)tapes[at].last;
+        count_fetches(tapes[at].what, (struct counted){counted.edition, counted.shorthand, counted.profile, tape});
+    }
     return 0;
 }
 
@@ -594,5 +678,8 @@ int main(int count, char **words) {
     if ((count == 2 || count == 3) && strcmp(words[1], "bench") == 0) {
         return bench(count == 3 ? words[2] : "", 20);
     }
-    fail("say selftest, serve or bench");
+    if ((count == 2 || count == 3) && strcmp(words[1], "fetches") == 0) {
+        return fetches(count == 3 ? words[2] : "");
+    }
+    fail("say selftest, serve, bench or fetches");
 }

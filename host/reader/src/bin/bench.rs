@@ -8,9 +8,10 @@ use second_opinion::trial::inputs::Ask;
 use std::error::Error;
 use std::fmt::Write;
 use std::hint::black_box;
+use std::path::Path;
 use std::process::ExitCode;
 
-const USAGE: &str = "usage: bench [--repeats N] -- COMMAND...";
+const USAGE: &str = "usage: bench [--repeats N] -- COMMAND..., or bench --tapes FOLDER";
 const SEED: u64 = 2539;
 
 /// What is timed: a specification, and how the blocks of its tape are made.
@@ -45,6 +46,7 @@ fn run() -> Result<(), Box<dyn Error>> {
     while let Some(word) = words.next() {
         match word.as_str() {
             "--repeats" => repeats = words.next().ok_or(USAGE)?.parse::<u64>()?.max(1),
+            "--tapes" => return write_tapes(Path::new(&words.next().ok_or(USAGE)?)),
             "--" => command = words.by_ref().collect(),
             _ => return Err(USAGE.into()),
         }
@@ -59,6 +61,17 @@ fn run() -> Result<(), Box<dyn Error>> {
         timer.growth(timed)?;
     }
     timer.door.close()?;
+    Ok(())
+}
+
+/// The tapes that are timed, each as the listing program reads it, with its profile beside it.
+fn write_tapes(folder: &Path) -> Result<(), Box<dyn Error>> {
+    for (timed, name) in TIMED.iter().zip(["every_digit", "dropped_zeros", "no_addresses"]) {
+        let mut text = format!("{} {}\n", timed.edition, timed.shorthand).into_bytes();
+        text.extend(timed.tape(MOST_ROWS));
+        std::fs::write(folder.join(name), text)?;
+        std::fs::write(folder.join(name).with_extension("profile"), timed.profile)?;
+    }
     Ok(())
 }
 
