@@ -1,9 +1,10 @@
 -- A table that antt computes of a function: its entry at a place below its length is the function's value there.
-use mathlib.Core.Path.{_≡_, refl, _∙_, sym, subst, ap}
+use mathlib.Core.Path.{_≡_, _∙_, sym, ap}
+use mathlib.Core.Bool.{Bool, true}
 use mathlib.Core.List.{List, [], _∷_}
 use Prim.Native.Nat.{ℕ, zero, suc, _+_, _<_}
 use native.Mathlib.Nat.{le-of-suc-le-suc, not-suc-le-zero, add-zero, zero-add, add-suc, suc-add}
-use lib.ListN.{getD}
+use lib.ListN.{getD, replicate, getD-replicate}
 
 module _ {A : Type 0} (f : ℕ → A) where
   -- f at i and the n - 1 places after it
@@ -18,3 +19,7 @@ module _ {A : Type 0} (f : ℕ → A) where
 
   pub tab-at : (n k : ℕ) (d : A) → k < n → getD (tab 0 n) k d ≡ f k
   tab-at n k d h = from 0 n k d h ∙ ap f (zero-add k)
+
+-- a test that antt computes to pass at each of n places passes there
+pub tab-passes : (f : ℕ → Bool) (n : ℕ) → tab f 0 n ≡ replicate n true → (k : ℕ) → k < n → f k ≡ true
+tab-passes f n e k h = sym (tab-at f n k true h) ∙ ap (λ l. getD l k true) e ∙ getD-replicate n k true true h

@@ -9,3 +9,4 @@ pub mod RoundTrip
 pub mod ExactCode
 pub mod Bounds
 pub mod Steps
+pub mod PreferredRates

@@ -5,12 +5,7 @@ use mathlib.Core.Logic.{_⊎_, inl, inr}
 use native.Mathlib.Nat.{div-mul-le-self, lt-div-mul-add, mul-le-mul-right, div-add-mod', mod-lt, div-eq-of-lt-le}
 use native.Mathlib.Decide.{decLt}
 use native.Mathlib.Omega.{arith}
-use Rattle.speeds.specs.Rounding.{nearest, apart}
-
--- w is no nearer to v than r is, and not above r where it is as near
-pub record NoNearer (v r w : ℕ) : Type 0 where
-  pub close : apart r v ≤ apart w v
-  pub upper : apart w v ≡ apart r v → w ≤ r
+use Rattle.speeds.specs.Rounding.{nearest, NoNearer}
 
 -- two multiples are the same, or at least a unit lies between them
 multiples : (u i j : ℕ) → (i * u + u ≤ j * u) ⊎ ((i * u ≡ j * u) ⊎ (j * u + u ≤ i * u))

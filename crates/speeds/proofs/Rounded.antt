@@ -6,10 +6,10 @@ use native.Mathlib.Nat.{pow-succ', one-mul, mul-assoc, mul-lt-mul-of-pos-right, 
 use native.Mathlib.Decide.{decLe}
 use native.Mathlib.Omega.{arith}
 use lib.Pow.{pow-add}
-use Rattle.speeds.specs.Rounding.{Significant, rounded, pastWithin, past, apart}
+use Rattle.speeds.specs.Rounding.{Significant, rounded, pastWithin, past, apart, NoNearer}
 use Rattle.speeds.proofs.Tens.{ten-positive, ten-times, ten-below, ten-split}
 use Rattle.speeds.proofs.Past.{Past, past-law}
-use Rattle.speeds.proofs.Nearest.{NoNearer, nearest-best}
+use Rattle.speeds.proofs.Nearest.{nearest-best}
 
 -- a number of s figures and then zeros stays below a power of ten
 figures-under : {s w : ℕ} (h : Significant s w) → w < 10 ^ (s + h .zeros)

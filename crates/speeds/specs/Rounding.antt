@@ -1,5 +1,5 @@
 -- Rounding to significant digits, a half upwards (document 01, "Coded speeds").
-use Prim.Native.Nat.{ℕ, zero, suc, _+_, _-_, _*_, _/_, _^_, _<_}
+use Prim.Native.Nat.{ℕ, zero, suc, _+_, _-_, _*_, _/_, _^_, _≤_, _<_}
 use mathlib.Core.Path.{_≡_}
 use mathlib.Core.Bool.{true, false}
 use lib.Dec.{ltb}
@@ -23,6 +23,11 @@ rounded s v = nearest (10 ^ past s v) v
 -- how far two numbers are apart
 abbrev pub apart : ℕ → ℕ → ℕ
 apart a b = (a - b) + (b - a)
+
+-- w is no nearer to v than r is, and not above r where it is as near
+pub record NoNearer (v r w : ℕ) : Type 0 where
+  pub close : apart r v ≤ apart w v
+  pub upper : apart w v ≡ apart r v → w ≤ r
 
 -- w has at most s significant digits: s figures and then zeros
 pub record Significant (s w : ℕ) : Type 0 where

@@ -6,6 +6,8 @@ ghost use Rattle.speeds.specs.Rounding.{past, rounded};
 ghost use Rattle.speeds.specs.Coding.{speedTold, codeTold, codeFor, exactFor};
 use rows::Refusal;
 
+mod preferred;
+
 // The speed that a code means, in ten-millionths.
 pub enum Speed {
     Units(u64),
