@@ -4,15 +4,16 @@
  * Link with libcrumbtrellis.a, which `rt staticlib crumbtrellis` writes to target/staticlib/ (x86-64 Linux).
  *
  * Every function returns 0 for success, or the number of the refusal. For every input there is one answer:
- *   success:  returns 0, *place is 0, *value is the value;
- *   refusal:  returns its number, *place is its place, *value is 0, and the buffer stays as it was.
+ *   success:  returns 0, *place is 0, *value is the value, or *kind and *units are the speed;
+ *   refusal:  returns its number, *place is its place, *value, *kind and *units are 0, and the buffer stays as it was.
  * Rows, bytes and blocks count from 0.
  *
  * What the caller owes:
- *   - `place` and `value` point to a uint64_t each, which may hold anything before the call; neither may be null;
+ *   - `place`, `value` and `units` point to a uint64_t each and `kind` to a uint32_t, which may hold anything before the
+ *     call; none may be null;
  *   - a pointer with its length points to that many bytes; where the length is 0 it may be null;
- *   - `place`, `value` and the bytes of `buffer` overlap neither each other nor any other bytes handed over (slices
- *     that are only read, a shorthand, a profile and a tape, may overlap);
+ *   - `place`, `value`, `kind`, `units` and the bytes of `buffer` overlap neither each other nor any other bytes handed
+ *     over (slices that are only read, a shorthand, a profile and a tape, may overlap);
  *   - no other thread writes to any of these during the call.
  * No function keeps a pointer, allocates, or has state of its own; calls may run in several threads at once.
  *
@@ -58,8 +59,8 @@ enum crumbtrellis_refusal {
     CRUMBTRELLIS_DIGITS = 11,           /* too few or too many digits in a word; the first wrong row */
     CRUMBTRELLIS_SIGN = 12,             /* a sign is missing or not allowed; the row found there, behind the address or, without
                                            addresses, behind the tab */
-    CRUMBTRELLIS_SECOND_ZERO = 13,      /* the second digit of a speed is zero and not all are; the row of the address, or without
-                                           addresses the word's first digit; 0 for a code given as a number */
+    CRUMBTRELLIS_SECOND_ZERO = 13,      /* the second of a speed's 3 to 5 digits is zero and not all are; the row of the address,
+                                           or without addresses the word's first digit; 0 for a code given as a number */
     CRUMBTRELLIS_TAPE_ENDS = 14,        /* the tape ends inside a block; the tape's length */
     CRUMBTRELLIS_NO_BLOCK = 15,         /* block n is not there; the number of blocks */
     CRUMBTRELLIS_RECORD = 16,           /* a record's count over 22, or a word that is no item, out of order or of the wrong kind;
@@ -69,10 +70,17 @@ enum crumbtrellis_refusal {
     CRUMBTRELLIS_INEXACT = 18,          /* a speed has no exact code; the word from 1 */
     CRUMBTRELLIS_BUFFER = 19,           /* the buffer is too small; the rows needed */
     CRUMBTRELLIS_NOT_CODABLE = 20,      /* a speed cannot be coded; 0 */
-    CRUMBTRELLIS_CODE_LENGTH = 21,      /* a code's length is not 3 to 5, or the code has more digits; 0 */
+    CRUMBTRELLIS_CODE_LENGTH = 21,      /* a code's length is not 2 to 5, or the code has more digits; 0 */
     CRUMBTRELLIS_PROFILE_FORM = 22,     /* the profile is out of form; the first wrong byte of it, or its length */
     CRUMBTRELLIS_PROFILE_AGREEMENT = 23 /* the shorthand does not agree with the profile, or the profile's digits are out of
                                            order; 0 */
+};
+
+/* The kinds of a speed. Only a rate has units, which are ten-millionths; those of a stop and of a rapid are 0. */
+enum crumbtrellis_speed {
+    CRUMBTRELLIS_RATE = 0,
+    CRUMBTRELLIS_STOP = 1,
+    CRUMBTRELLIS_RAPID = 2
 };
 
 /*
@@ -86,16 +94,19 @@ uint32_t crumbtrellis_count_blocks(uint32_t edition, const uint8_t *shorthand, s
                                    uint64_t *value);
 
 /*
- * The speed that a code of 3 to 5 digits means, in ten-millionths. The code is given as a number: 46 in three digits is 046.
- * Refusals: 21, then 13.
+ * The speed that a code of 2 to 5 digits means. The code is given as a number: 46 in three digits is 046. In two digits 00 is
+ * a stop, 99 a rapid, and any other a rate of the table of preferred numbers; in 3 to 5 every speed is a rate, all zeros too.
+ * Refusals: 21, then 13, which no code of two digits gives.
  */
-uint32_t crumbtrellis_speed_of(uint32_t digits, uint64_t code, uint64_t *place, uint64_t *value);
+uint32_t crumbtrellis_speed_of(uint32_t digits, uint64_t code, uint64_t *place, uint32_t *kind, uint64_t *units);
 
 /*
- * The code, of 3 to 5 digits, of a speed in ten-millionths, as a number. The speed is rounded to one significant digit
- * fewer than the code has digits, a half upwards; zero is all zeros. Refusals: 21, then 20.
+ * The code, of 2 to 5 digits, of a speed, as a number. In two digits a rate has the code of the nearest one in the table, the
+ * larger of two equally near; in 3 to 5 it is rounded to one significant digit fewer than the code has digits, a half upwards,
+ * and zero is all zeros. Refusals: 21; then 20 for a rate under 11,200,000 or over 800,000,000,000 units in two digits, for a
+ * stop or a rapid in 3 to 5, for a rate that has no code there, for a kind over 2 and for a stop or a rapid with units.
  */
-uint32_t crumbtrellis_code_of(uint32_t digits, uint64_t speed, uint64_t *place, uint64_t *value);
+uint32_t crumbtrellis_code_of(uint32_t digits, uint32_t kind, uint64_t units, uint64_t *place, uint64_t *value);
 
 /*
  * Writes the tape head, % and LF with their parity holes, to the front of the buffer; the value is the number of rows

@@ -1,2 +1,2 @@
--- The one law of the door, which its four functions cite.
+-- The laws of the door, which its four functions cite.
 pub mod Handed

@@ -1,2 +1,3 @@
--- What the door hands back for an answer.
+-- What the door takes for a speed, and what it hands back for an answer.
+pub mod Crossing
 pub mod Replies

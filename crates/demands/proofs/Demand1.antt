@@ -15,9 +15,10 @@ use Rattle.rows.specs.Faults.{RowRefusal}
 use Rattle.rows.proofs.Outcomes.{Holds, refusal, value, holds-map, holds-bind, holds-cond, of-refused}
 use Rattle.rows.proofs.Judged.{clean-passes}
 use Rattle.rows.proofs.RowRefusals.{row-refusals, refused-exactly}
+use Rattle.speeds.specs.declared.Speed.{Speed}
 use Rattle.speeds.specs.Meaning.{speedFor}
 use Rattle.speeds.specs.Coding.{codeFor}
-use Rattle.speeds.proofs.Answers.{speed-answers, code-answers}
+use Rattle.speeds.proofs.Answers.{Spoken, means, speed-answers, Given, has, code-answers}
 use Rattle.shorthand.specs.declared.Format.{Format}
 use Rattle.shorthand.specs.Mending.{Spelling}
 use Rattle.shorthand.specs.Parse.{parsed}
@@ -134,11 +135,21 @@ module _ (e : ℕ) (s p : List ℕ) where
 pub head-answered : (buffer : List ℕ) → Answered (Heading buffer) (headPunched buffer)
 head-answered buffer = holds-cond (leb 2 (length buffer)) (λ l. value tt) (λ l. refusal (Heading.full (leb-false 2 (length buffer) l)))
 
-pub speed-answered : (k c : ℕ) → Answered Speaking (speedFor k c)
-speed-answered k c = ⊎-elim (λ v. rw (v .1) (value tt)) (⊎-elim (λ q. rw q (refusal Speaking.digits)) (λ q. rw q (refusal Speaking.second-zero))) (speed-answers k c)
+pub speed-answered : (k c : ℕ) → Answered (Speaking k c) (speedFor k c)
+speed-answered k c = by (speed-answers k c)
+  where
+    by : Spoken k c → Answered (Speaking k c) (speedFor k c)
+    by (means s q) = rw q (value tt)
+    by (Spoken.second-zero three five short q) = rw q (refusal (Speaking.second-zero three five short))
+    by (Spoken.wrong-length nay q) = rw q (refusal (Speaking.digits nay))
 
-pub code-answered : (k v : ℕ) → Answered Coding (codeFor k v)
-code-answered k v = ⊎-elim (λ c. rw (c .1) (value tt)) (⊎-elim (λ q. rw q (refusal Coding.digits)) (λ q. rw q (refusal Coding.beyond))) (code-answers k v)
+pub code-answered : (k : ℕ) (s : Speed) → Answered (Coding k) (codeFor k s)
+code-answered k s = by (code-answers k s)
+  where
+    by : Given k s → Answered (Coding k) (codeFor k s)
+    by (has c q) = rw q (value tt)
+    by (Given.beyond two five q) = rw q (refusal (Coding.beyond two five))
+    by (Given.wrong-length nay q) = rw q (refusal (Coding.digits nay))
 
 -- exactly: the table's refusal is the answer, and no other is
 table-refused : {e : ℕ} {s p t : List ℕ} {n k : ℕ} → Reading e s p t n k → counted e s p t ≡ refused n k

@@ -4,8 +4,8 @@ use Rattle.rows.specs.Answer.{told}
 use Rattle.rows.specs.declared.Checked.{Checked}
 use Rattle.rows.specs.declared.Checked.the-variants.{Clean, Refused}
 use Rattle.rows.proofs.OneAnswer.{Case, takes, refuses, one}
-use Rattle.speeds.specs.declared.Speed.{Speed}
-use Rattle.speeds.specs.declared.Speed.the-variants.{Units}
+use Rattle.speeds.specs.declared.SpeedRead.{SpeedRead}
+use Rattle.speeds.specs.declared.SpeedRead.the-variants.{Is}
 use Rattle.speeds.specs.declared.Code.{Code}
 use Rattle.speeds.specs.declared.Code.the-variants.{Number}
 use Rattle.speeds.specs.Coding.{speedTold, codeTold}
@@ -23,12 +23,12 @@ one-check r q = one told (λ u. Clean) Refused (case r) (case q)
     case Clean = takes tt refl
     case (Refused r) = refuses r refl
 
-pub one-speed : (r q : Speed) → speedTold r ≡ speedTold q → r ≡ q
-one-speed r q = one speedTold Units Speed.Refused (case r) (case q)
+pub one-speed : (r q : SpeedRead) → speedTold r ≡ speedTold q → r ≡ q
+one-speed r q = one speedTold Is SpeedRead.Refused (case r) (case q)
   where
-    case : (r : Speed) → Case speedTold Units Speed.Refused r
-    case (Units v) = takes v refl
-    case (Speed.Refused r) = refuses r refl
+    case : (r : SpeedRead) → Case speedTold Is SpeedRead.Refused r
+    case (Is s) = takes s refl
+    case (SpeedRead.Refused r) = refuses r refl
 
 pub one-code : (r q : Code) → codeTold r ≡ codeTold q → r ≡ q
 one-code r q = one codeTold Number Code.Refused (case r) (case q)

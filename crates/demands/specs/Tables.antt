@@ -39,11 +39,12 @@ pub data Punching (e : ℕ) (s p : List ℕ) (b : Block) (buffer : List ℕ) : �
 pub data Heading (buffer : List ℕ) : ℕ → ℕ → Type 0 where
   full : length buffer < 2 → Heading buffer 19 2
 
--- a code given as a number, and a speed
-pub data Speaking : ℕ → ℕ → Type 0 where
-  second-zero : Speaking 13 0
-  digits : Speaking 21 0
+-- a code c of k digits given as a number: 13 in three to five digits alone; 21 for another length, or more digits than that
+pub data Speaking (k c : ℕ) : ℕ → ℕ → Type 0 where
+  second-zero : 3 ≤ k → k ≤ 5 → c < 10 ^ k → Speaking k c 13 0
+  digits : (2 ≤ k → k ≤ 5 → c < 10 ^ k → ⊥) → Speaking k c 21 0
 
-pub data Coding : ℕ → ℕ → Type 0 where
-  beyond : Coding 20 0
-  digits : Coding 21 0
+-- a speed to be coded in k digits
+pub data Coding (k : ℕ) : ℕ → ℕ → Type 0 where
+  beyond : 2 ≤ k → k ≤ 5 → Coding k 20 0
+  digits : (2 ≤ k → k ≤ 5 → ⊥) → Coding k 21 0

@@ -25,7 +25,7 @@ use Rattle.reading.proofs.BlocksJoined.{program-append}
 use Rattle.places.specs.Begins.{Digit, Begins, Closes, Reached, Due}
 use Rattle.places.specs.Faults.{numberRows, Spoilt}
 use Rattle.places.proofs.DigitLists.{zeros-digit, coded, padded, padded-length}
-use Rattle.places.proofs.SpeedDigits.{Means, saved}
+use Rattle.places.proofs.SpeedDigits.{Saves, saved, zeros-saved}
 use Rattle.places.proofs.Dues.{Some, SomeWords, stands, Opened, opened, SomeBlock, reached-words}
 
 -- ---- programs, one block longer
@@ -104,29 +104,25 @@ resigned plus-missing k = (pos k, plus-missing)
 -- a sign and digits behind an address, or behind a tab: some digits behind them make a word's data, or they are spoilt digits of a speed
 pub data Outlook (k : Kind) (s ds : List ℕ) : Type 0 where
   open-to : {v : Value} (more : List ℕ) → Data k v (s ++ (ds ++ more)) → Outlook k s ds
-  spoilt-for : {j : ℕ} → k ≡ Kind.Speed j → s ≡ [] → Spoilt ds → Outlook k s ds
+  spoilt-for : {j : ℕ} → k ≡ Kind.Speed j → s ≡ [] → Spoilt j ds → Outlook k s ds
 
 pub outlook : (k : Kind) {m : ℕ} {z : ℤ} {s : List ℕ} → Widths k → Signed m (signOf k) z s → (ds : List ℕ) → Every Digit ds → length ds ≤ width k → Outlook k s ds
 outlook (Plain n) w g ds all most =
     let p = padded Nothing n ds all (w .0) most in
     open-to {v = Number (p .0)} (zeros (n - length ds)) (rw (barred-none g) (number (p .1)))
-outlook (Kind.Speed k) {s = s} w g ds all most = go (saved k (w .0) (w .1) ds all most)
+outlook (Kind.Speed k) {s = s} w g ds all most = go (saved k w ds most)
   where
-    go : ((more : List ℕ) × Means k (w .0) (w .1) (ds ++ more)) ⊎ Spoilt ds → Outlook (Kind.Speed k) s ds
-    go (inl m) = open-to {v = Value.Speed (m .1 .1)} (m .0) (rw (barred-none g, m .1 .3) (speed (m .1 .0) (m .1 .2)))
+    go : ((c : ℕ) × Saves k ds c) ⊎ Spoilt k ds → Outlook (Kind.Speed k) s ds
+    go (inl (c, ((o, e), (v, q)))) = open-to {v = Value.Speed v} o (rw (barred-none g, e) (speed c q))
     go (inr h) = spoilt-for refl (barred-none g) h
 outlook (Kind.Dimension d) w g ds all most =
     let p = padded (d .missing) (d .before + d .after) ds all (w .2) most in
     open-to (zeros (d .before + d .after - length ds)) (dimension (resigned g (p .0) .1) (p .1))
 
 -- no digits and zeros alone are never spoilt
-unspoilt : {k : Kind} {s : List ℕ} (ds : List ℕ) → Every (λ c. c ≡ 48) ds → Outlook k s ds → (v : Value) × (more : List ℕ) × Data k v (s ++ (ds ++ more))
-unspoilt ds all (open-to {v} o h) = (v, o, h)
-unspoilt ds all (spoilt-for k n h) = absurd (h .some all)
-
-zeros-zero : (j : ℕ) → Every (λ c. c ≡ 48) (zeros j)
-zeros-zero zero = tt
-zeros-zero (suc j) = (refl, zeros-zero j)
+unspoilt : {k : Kind} {s : List ℕ} → Widths k → (j : ℕ) → Outlook k s (zeros j) → (v : Value) × (more : List ℕ) × Data k v (s ++ (zeros j ++ more))
+unspoilt w j (open-to {v} o h) = (v, o, h)
+unspoilt w i (spoilt-for {j} k n h) = absurd (zeros-saved j (subst Widths k w) i h)
 
 some-sign : (g : Sign) → (z : ℤ) × (s : List ℕ) × Signed 0 g z s
 some-sign barred = (pos 0, [], never)
@@ -144,7 +140,7 @@ module _ {f : Format} (it : Item) (w : Widths (it .kind)) (x : List ℕ) (due : 
   pub address-begins : Begins f (x ++ address (wayOf f) it)
   address-begins =
       let g = some-sign (signOf (it .kind)) in
-      let o = unspoilt [] tt (outlook (it .kind) w (g .2) [] tt zero-le) in
+      let o = unspoilt w 0 (outlook (it .kind) w (g .2) [] tt zero-le) in
       let b = figures-begin (g .1) [] (o .1) (o .2) in
       begins-from (x ++ address (wayOf f) it) (g .1 ++ [] ++ b .1) (x ++ address (wayOf f) it ++ (g .1 ++ []) ++ b .1) (b .2) (simp append-assoc)
 
@@ -157,5 +153,5 @@ module _ {f : Format} (it : Item) (w : Widths (it .kind)) (x : List ℕ) (due : 
   zeros-begin {k} e j most =
       let g : Signed 0 (signOf (it .kind)) (pos 0) [] = rw e never in
       let few : length (zeros j) ≤ width (it .kind) = rw (e, length-replicate) most in
-      let o = unspoilt (zeros j) (zeros-zero j) (outlook (it .kind) w g (zeros j) (zeros-digit j) few) in
+      let o = unspoilt w j (outlook (it .kind) w g (zeros j) (zeros-digit j) few) in
       figures-begin [] (zeros j) (o .1) (o .2)

@@ -18,7 +18,8 @@ use Rattle.words.specs.declared.Word.{Word}
 use Rattle.reading.specs.declared.Block.{Block}
 use Rattle.reading.specs.Relation.{digits, Signed, never, plus, minus, plus-stands, minus-stands, plus-missing, Data, number, speed, dimension, Worded, word, tab, Words, done, out, here, End, skipRows, sequenceRows, Blocked, block, Blocks, Program, program}
 use Rattle.reading.proofs.DigitRows.{digits-digit}
-use Rattle.reading.proofs.WordTakes.{reads, speed-small}
+use Rattle.speeds.proofs.Answers.{read-short}
+use Rattle.reading.proofs.WordTakes.{reads}
 use Rattle.places.specs.Begins.{Digit}
 
 -- wherever c stands in x, F holds of what stands behind it
@@ -110,7 +111,7 @@ module _ {P : ℕ → Type 0} (digit : (c : ℕ) → Digit c → P c) (plus-sign
 
   pub every-data : {j : Kind} {v : Value} {d : List ℕ} → Data j v d → Every P d
   every-data (number {ds = ds} p) = every-digit ds (reads p .digit)
-  every-data (speed {k = j} {v = v} c e) = every-digit (digits j c) (digits-digit j c (speed-small j c v e))
+  every-data (speed {k = j} c e) = every-digit (digits j c) (digits-digit j c (read-short j c e))
   every-data (dimension {s = s} {ds = ds} g p) = every-append P s ds (every-sign g) (every-digit ds (reads p .digit))
 
   pub every-word : (y : Way) (it : Item) → P (it .letter) → {w : Word} {d : List ℕ} → Worded y it w d → Every P d

@@ -12,7 +12,8 @@ use Rattle.shorthand.specs.Layout.{width, missingOf, fewest, Sign, signOf}
 use Rattle.words.specs.declared.Value.{Value}
 use Rattle.reading.specs.Relation.{digits, Signed, never, plus, minus, Data, speed, dimension}
 use Rattle.reading.proofs.DigitRows.{digits-length, digits-digit}
-use Rattle.reading.proofs.WordTakes.{reads, speed-small}
+use Rattle.speeds.proofs.Answers.{read-short}
+use Rattle.reading.proofs.WordTakes.{reads}
 use Rattle.places.specs.Begins.{Digit}
 use Rattle.places.specs.Faults.{SignRow}
 
@@ -30,8 +31,8 @@ pub record Parts (k : Kind) (d : List ℕ) : Type 0 where
 
 pub parts : {k : Kind} {v : Value} {d : List ℕ} → Data k v d → Parts k d
 parts (Data.number {v = v} {ds = ds} p) = record { m = v; z = pos v; s = []; ds = ds; split = refl; signs = never; all = reads p .digit; least = reads p .least }
-parts (speed {k = k} {v = v} c e) =
-    record { m = c; z = pos c; s = []; ds = digits k c; split = refl; signs = never; all = digits-digit k c (speed-small k c v e); least = omega (arith, digits-length k c) }
+parts (speed {k = k} c e) =
+    record { m = c; z = pos c; s = []; ds = digits k c; split = refl; signs = never; all = digits-digit k c (read-short k c e); least = omega (arith, digits-length k c) }
 parts (dimension {m = m} {z = z} {s = s} {ds = ds} g p) = record { m = m; z = z; s = s; ds = ds; split = refl; signs = g; all = reads p .digit; least = reads p .least }
 
 -- fewer digits and then LF are not the beginning of more digits

@@ -41,7 +41,7 @@ use Rattle.places.specs.Begins.{Digit, Begins, Reached, first, out, here
 use Rattle.places.specs.Faults.{SpeedDue, Spoilt}
 use Rattle.places.proofs.Steady.{Refuses, refuses-bind}
 use Rattle.places.proofs.Unread.{Unread, block-unread, behind-unread}
-use Rattle.places.proofs.SpeedDigits.{spoilt-never}
+use Rattle.places.proofs.SpeedDigits.{spoilt-some, spoilt-never}
 use Rattle.places.proofs.Dues.{due-item, item-widths, opened, opened-some, rowsOf, chars-of}
 
 -- ---- the walk to an item that is due
@@ -171,16 +171,15 @@ shorter (c ∷ a) (d ∷ b) x y e l =
     let q = shorter a b x y t (omega arith) in
     (q .0, ap (λ z. z ∷ b) h ∙ ap (λ z. c ∷ z) (q .1))
 
-spoilt-enters : (ds o : List ℕ) → Spoilt ds → Every Digit ds → heads isFigure (ds ++ o) ≡ true
-spoilt-enters [] o s all = let n = ap length (s .second) in absurd (omega arith)
-spoilt-enters (d ∷ ds) o s all = rw (is-digit d (all .0))
+digit-enters : (ds o : List ℕ) → 0 < length ds → Every Digit ds → heads isFigure (ds ++ o) ≡ true
+digit-enters [] o some all = absurd (omega arith)
+digit-enters (d ∷ ds) o some all = rw (is-digit d (all .0))
 
 -- of a speed they begin no program's rows
-pub spoilt-begins : {f : Format} → Facts f → {k : ℕ} {it : Item} {x : List ℕ} → SpeedDue f it k x → (ds : List ℕ) → Spoilt ds → Every Digit ds → length ds ≤ k
-    → Begins f (x ++ address (wayOf f) it ++ ds) → ⊥
-spoilt-begins {f} facts {k} {it} {x} due ds s all few (bs, o, p) =
-    let q = follows facts (due .due) (ds ++ o) (λ e. spoilt-enters ds o s all) (subst (Program f bs) (append-assoc (x ++ address (wayOf f) it) ds o) p) in
-    let said : Data (Kind.Speed k) (q .0) (q .1) = subst (λ j. Data j (q .0) (q .1)) (due .speed) (q .3) in
+pub spoilt-begins : {f : Format} → Facts f → {k : ℕ} {it : Item} {x : List ℕ} → SpeedDue f it k x → (ds : List ℕ) → Spoilt k ds → Every Digit ds → Begins f (x ++ address (wayOf f) it ++ ds) → ⊥
+spoilt-begins {f} facts {k} {it} {x} due ds s all (bs, o, p) =
     let speeds : Widths (Kind.Speed k) = subst Widths (due .speed) (item-widths (facts .fair) (due-item (due .due))) in
-    let u = shorter ds (q .1) o (q .2) (q .4) (omega (arith, speed-length said)) in
-    spoilt-never k (speeds .0) said ds (u .0) s (u .1)
+    let q = follows facts (due .due) (ds ++ o) (λ e. digit-enters ds o (spoilt-some k speeds ds s) all) (subst (Program f bs) (append-assoc (x ++ address (wayOf f) it) ds o) p) in
+    let said : Data (Kind.Speed k) (q .0) (q .1) = subst (λ j. Data j (q .0) (q .1)) (due .speed) (q .3) in
+    let u = shorter ds (q .1) o (q .2) (q .4) (omega (arith, speed-length said, s .fits)) in
+    spoilt-never said ds (u .0) s (u .1)

@@ -9,7 +9,7 @@ use lib.Dec.{T}
 use Rattle.rows.specs.Answer.{refused}
 use Rattle.rows.specs.Kept.{KeptRow}
 use Rattle.rows.specs.Passes.{Every}
-use Rattle.speeds.specs.Meaning.{secondZero}
+use Rattle.speeds.specs.Meaning.{speedFor}
 use Rattle.shorthand.specs.declared.Kind.{Kind}
 use Rattle.shorthand.specs.declared.Item.{Item}
 use Rattle.shorthand.specs.declared.Format.{Format}
@@ -62,13 +62,14 @@ one-row (s ∷ w) c e =
 -- ---- digits past saving
 
 module _ (f : Format) (facts : Facts f) (b es : List KeptRow) (k : ℕ) (it : Item) (x : List ℕ) (e : chars b ≡ x ++ address (wayOf f) it) (due : SpeedDue f it k x) where
-  past-begins : Spoilt (chars es) → Every Digit (chars es) → length (chars es) ≤ k → Begins f (chars b ++ chars es) → ⊥
-  past-begins s all few h = spoilt-begins facts due (chars es) s all few (rw (← e) h)
+  past-begins : Spoilt k (chars es) → Every Digit (chars es) → Begins f (chars b ++ chars es) → ⊥
+  past-begins s all h = spoilt-begins facts due (chars es) s all (rw (← e) h)
 
   -- zeros in their place begin a program's rows
-  zeros-save : length (chars es) ≤ k → (o : List ℕ) × Every Digit o × (length o ≡ length es) × Begins f (chars b ++ o)
-  zeros-save few =
+  zeros-save : Spoilt k (chars es) → (o : List ℕ) × Every Digit o × (length o ≡ length es) × Begins f (chars b ++ o)
+  zeros-save s =
       let n = length-map es (λ s. s .char) in
+      let few = s .fits in
       (zeros (length es), zeros-digit (length es), length-replicate (length es) 48, rw e (zeros-begin it (item-widths (facts .fair) (due-item (due .due))) x (due .due) (due .speed) (length es) (omega arith)))
 
 -- ---- refused at a row
@@ -98,19 +99,19 @@ module _ (f : Format) (facts : Facts f) (len : ℕ) (rs b es w a : List KeptRow)
       let up-to : chars b ++ (13 ∷ (s .0 .char ∷ [])) ≡ chars b ++ (chars es ++ (r .char ∷ chars w)) = rw (none, k, l, s .2) in
       at-cr b a r (s .0) whole due k (λ e. nlf (sym (s .2) ∙ e)) begins (unsaved es all refl _ up-to)
 
-  code-refused : (k c : ℕ) (it : Item) → digitNext a ≡ false → chars es ≡ [] → chars (r ∷ w) ≡ address (wayOf f) it ++ digits k c → SpeedDue f it k (chars b) → c < 10 ^ k → T (secondZero k c)
+  code-refused : (k c : ℕ) (it : Item) → digitNext a ≡ false → chars es ≡ [] → chars (r ∷ w) ≡ address (wayOf f) it ++ digits k c → SpeedDue f it k (chars b) → c < 10 ^ k → speedFor k c ≡ refused 13 0
       → Begins f (chars b) → Refusal f len rs 13 (r .place)
   code-refused k c it apart none v due small z begins =
       let whole : rs ≡ b ++ (r ∷ (w ++ a)) = split ∙ ap (λ d. b ++ (d ++ (r ∷ (w ++ a)))) (no-rows es none) in
       let up-to : chars b ++ chars (r ∷ w) ≡ chars b ++ (chars es ++ (r .char ∷ chars w)) = rw none in
       at-word c b w a r whole due v small z (λ d o q h. false≢true (sym apart ∙ ap digitNext q ∙ is-digit (d .char) h)) begins (unsaved es all refl _ up-to)
 
-  spoilt-refused : (k c : ℕ) (it : Item) (x : List ℕ) → chars b ≡ x ++ address (wayOf f) it → r .char ≡ c → chars w ≡ [] → SpeedDue f it k x → Spoilt (chars es) → length (chars es) ≤ k
+  spoilt-refused : (k c : ℕ) (it : Item) (x : List ℕ) → chars b ≡ x ++ address (wayOf f) it → r .char ≡ c → chars w ≡ [] → SpeedDue f it k x → Spoilt k (chars es)
       → Misfit f 11 (chars b ++ chars es) c → Refusal f len rs 11 (r .place)
-  spoilt-refused k c it x e v l due s few m =
+  spoilt-refused k c it x e v l due s m =
       let whole : rs ≡ b ++ (es ++ (r ∷ a)) = split ∙ ap (λ v. b ++ (es ++ (r ∷ (v ++ a)))) (no-rows w l) in
       let up-to : (o : List ℕ) → chars b ++ (o ++ (r .char ∷ [])) ≡ chars b ++ (chars (rowsOf o) ++ (r .char ∷ chars w)) = λ o. rw (l, chars-of o) in
-      past-saving b es a r x whole due e s all (subst (λ d. Misfit f 11 (chars b ++ chars es) d) (sym v) m) (past-begins f facts b es k it x e due s all few) (zeros-save f facts b es k it x e due few)
+      past-saving b es a r x whole due e s all (subst (λ d. Misfit f 11 (chars b ++ chars es) d) (sym v) m) (past-begins f facts b es k it x e due s all) (zeros-save f facts b es k it x e due s)
       (λ o h j. unsaved (rowsOf o) (rw (chars-of o) h) (length-map o (λ c. record { place = 0; char = c }) ∙ j) _ (up-to o))
 
   row-refused : {n : ℕ} {x ds v : List ℕ} → Told f n x ds v → (n ≡ 13 → digitNext a ≡ false) → chars b ≡ x → chars es ≡ ds → r .char ∷ chars w ≡ v → Refusal f len rs n (r .place)
@@ -125,10 +126,10 @@ module _ (f : Format) (facts : Facts f) (len : ℕ) (rs b es w a : List KeptRow)
   row-refused (code {k} {it} c due small z begins) lone eb ed ev =
       code-refused k c it (lone refl) ed ev (subst (λ y. SpeedDue f it k y) (sym eb) due) small z (subst (Begins f) (sym eb) begins)
   row-refused (short e s begins) lone eb ed ev = let z = ap length ev in absurd (omega arith)
-  row-refused (spoilt {k} {c} {it} {x = y} e due s few m) lone eb ed ev =
+  row-refused (spoilt {k} {c} {it} {x = y} e due s m) lone eb ed ev =
       let v : r .char ≡ c = cc in
       let l : chars w ≡ [] = cc in
-      spoilt-refused k c it y (eb ∙ e) v l due (subst Spoilt (sym ed) s) (subst (λ d. length d ≤ k) (sym ed) few) (rw (eb, ed) m)
+      spoilt-refused k c it y (eb ∙ e) v l due (subst (Spoilt k) (sym ed) s) (rw (eb, ed) m)
   row-refused (spoilt-short e due s h few c) lone eb ed ev = let z = ap length ev in absurd (omega arith)
 
 -- ---- refused at the length
@@ -147,14 +148,14 @@ module _ (f : Format) (facts : Facts f) (len : ℕ) (rs b es : List KeptRow) (sp
   end-refused (short {n = n} {x = y} e s begins) eb ed ev =
       let is : y ≡ chars rs = e ∙ sym (all-rows ∙ rw (eb, ed)) in
       at-length (short-cut (subst (Short f n) is s) nay) (subst (Begins f) is begins)
-  end-refused (spoilt e due s few m) eb ed ev = let z = ap length ev in absurd (omega arith)
+  end-refused (spoilt e due s m) eb ed ev = let z = ap length ev in absurd (omega arith)
   end-refused (spoilt-short {k} {it} {x = y} {ds = ds} e due s h few c) eb ed ev =
       let is : chars b ++ ds ≡ chars rs = sym (all-rows ∙ rw ed) in
       let n : length (chars es) ≡ length ds = ap length ed in
-      let most : length (chars es) ≤ k = omega arith in
-      cut-past-saving b es y split due (eb ∙ e) (subst Spoilt (sym ed) s) (subst (Every Digit) (sym ed) h) (omega (arith, length-map es (λ s. s .char)))
+      let lost : Spoilt k (chars es) = subst (Spoilt k) (sym ed) s in
+      cut-past-saving b es y split due (eb ∙ e) lost (subst (Every Digit) (sym ed) h) (omega (arith, length-map es (λ s. s .char)))
       (short-cut (subst (Short f 14) (ap (λ l. l ++ ds) (sym eb) ∙ is) c) nay)
-      (λ g. past-begins f facts b es k it y (eb ∙ e) due (subst Spoilt (sym ed) s) (subst (Every Digit) (sym ed) h) most (subst (Begins f) all-rows g)) (zeros-save f facts b es k it y (eb ∙ e) due most)
+      (λ g. past-begins f facts b es k it y (eb ∙ e) due lost (subst (Every Digit) (sym ed) h) (subst (Begins f) all-rows g)) (zeros-save f facts b es k it y (eb ∙ e) due lost)
 
 -- ---- the theorem
 

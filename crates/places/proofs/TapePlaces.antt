@@ -21,7 +21,8 @@ use Rattle.rows.proofs.TapesJoined.{formed-append, kept-append}
 use Rattle.shorthand.specs.declared.Item.{Item}
 use Rattle.shorthand.specs.declared.Format.{Format}
 use Rattle.shorthand.specs.Layout.{Way, by-letter, by-both, by-tab, wayOf}
-use Rattle.shorthand.specs.Facts.{Facts}
+use Rattle.shorthand.specs.Facts.{Widths, Facts}
+use Rattle.shorthand.specs.declared.Kind.{Kind}
 use Rattle.profile.specs.Relation.{Settled}
 use Rattle.shorthand.proofs.Tests.{both}
 use Rattle.profile.proofs.Settling.{one-format, settled-facts}
@@ -35,9 +36,10 @@ use Rattle.reading.proofs.BareRows.{bare, Bare, digits-bare, block-bare}
 use Rattle.punching.proofs.PunchedRows.{punched-even, punched-known, punched-formed}
 use Rattle.punching.proofs.PunchedTapes.{chars-punched}
 use Rattle.places.specs.Begins.{Begins, Due}
-use Rattle.places.specs.Faults.{lastOf, EndDue, Misfit, Cut, Spoilt, Refusal, at-row, at-cr, at-word, at-length}
+use Rattle.places.specs.Faults.{lastOf, EndDue, Misfit, Cut, SpeedDue, Spoilt, Refusal, at-row, at-cr, at-word, at-length}
 use Rattle.places.specs.Tapes.{LongTape, Opens, Shuts, instead, Address, TapePlace, first-wrong, cr-alone, unsaid, ended}
 use Rattle.places.proofs.DigitLists.{zeros-digit, last-behind}
+use Rattle.places.proofs.SpeedDigits.{spoilt-some}
 use Rattle.places.proofs.Dues.{due-item, item-widths, item-letter}
 use Rattle.places.proofs.Ahead.{address-begins, zeros-begin}
 use Rattle.places.proofs.Called.{called}
@@ -209,9 +211,6 @@ word-rows (r ∷ b) ds (c ∷ x) m some e = let k : chars b ≡ x ++ m = cc in l
     longer : WordRows b ds x m → r .char ≡ c → WordRows (r ∷ b) ds (c ∷ x) m
     longer p a = record { before = r ∷ p .before; first = p .first; others = p .others; split = ap (λ l. r ∷ l) (p .split); of-before = rw (a, p .of-before); are = p .are }
 
-spoilt-some : (ds : List KeptRow) → Spoilt (chars ds) → 0 < length ds
-spoilt-some ds s = let n = ap length (s .second) in omega (arith, length-map ds (λ r. r .char))
-
 -- ---- the theorem
 
 module _ {e : ℕ} {s p t : List ℕ} {f : Format} (settled : Settled e s p f) (passes : Passes t) where
@@ -235,6 +234,11 @@ module _ {e : ℕ} {s p t : List ℕ} {f : Format} (settled : Settled e s p f) (
   own-bare : {it : Item} {x : List ℕ} → Due f it x → (u : List ℕ) → Bare u → Bare (own it ++ u)
   own-bare {it} {x} due u all = every-append _ (own it) u (begins-bare facts x (own it) (address-begins it (item-widths (facts .fair) (due-item due)) x due)) all
 
+  some-digits : {k : ℕ} {it : Item} {x : List ℕ} (ds : List KeptRow) → SpeedDue f it k x → Spoilt k (chars ds) → 0 < length ds
+  some-digits {k} {it} {x} ds due s =
+      let w : Widths (Kind.Speed k) = subst Widths (due .speed) (item-widths (facts .fair) (due-item (due .due))) in
+      omega (arith, spoilt-some k w (chars ds) s, length-map ds (λ r. r .char))
+
   -- a program that the tape stands as under the same edition, shorthand and profile stands so under this Format
   same-format : (bs : List Block) → LongTape e s p bs t → Program f bs (chars (kept t))
   same-format bs h = subst (λ g. Program g bs (chars (kept t))) (one-format (h .settled) settled) (h .stands)
@@ -257,7 +261,7 @@ module _ {e : ℕ} {s p t : List ℕ} {f : Format} (settled : Settled e s p f) (
       (shuts-instead settled passes b (w ++ a) r q (own it ++ digits k c) (own-bare (due .due) (digits k c) (digits-bare (digits k c) digit)) (λ g. nay (rw v g)))
   placed (at-length c h) = ended (cut-number c) (opens settled (passes-clean passes) h) (λ bs k. cut-none c (same-format bs k))
   placed (Refusal.past-saving {it = it} b ds a r x q due is s all m lost o nay) =
-      let p = word-rows b ds x (own it) (spoilt-some ds s) is in
+      let p = word-rows b ds x (own it) (some-digits ds due s) is in
       let whole : kept t ≡ b ++ ds ++ (r ∷ a) = q ∙ sym (append-assoc b ds (r ∷ a)) in
       let rows : kept t ≡ p .before ++ (p .first ∷ (p .others ++ (r ∷ a))) = whole ∙ ap (λ l. l ++ (r ∷ a)) (p .split) ∙ append-assoc (p .before) (p .first ∷ p .others) (r ∷ a) in
       let r-bare = every-back (λ y. T (bare (y .char))) (b ++ ds) (r ∷ a) (subst (Every (λ y. T (bare (y .char)))) whole (kept-bare passes)) .0 in
@@ -269,7 +273,7 @@ module _ {e : ℕ} {s p t : List ℕ} {f : Format} (settled : Settled e s p f) (
       shuts-instead settled passes (p .before) (p .others ++ (r ∷ a)) (p .first) rows (own it ++ u) (own-bare (due .due) u (every-append _ d (r .char ∷ []) (digits-bare d every) (r-bare, tt)))
       (λ h. nay d every (many ∙ length-map ds (λ y. y .char)) (subst (Begins f) (sym (to u)) h)))
   placed (Refusal.cut-past-saving {it = it} b ds x q due is s all few c lost o) =
-      let p = word-rows b ds x (own it) (spoilt-some ds s) is in
+      let p = word-rows b ds x (own it) (some-digits ds due s) is in
       let rows : kept t ≡ p .before ++ (p .first ∷ p .others) = q ∙ p .split in
       let to : chars b ++ o .0 ≡ chars (p .before) ++ (own it ++ o .0) = rw (is, p .of-before) (append-assoc x (own it) (o .0)) in
       TapePlace.cut-past-saving (p .before) (p .others) (p .first) (own it) (chars ds) rows (p .are) (subst (λ z. Address (lastOf z) (own it)) (sym (p .of-before)) (lone (due .due))) s all (shuts settled t (passes .formed) lost)

@@ -8,7 +8,8 @@ use native.Mathlib.Omega.{arith}
 use lib.ListN.{length}
 use lib.Dec.{T, lit<}
 use Rattle.rows.specs.Passes.{Every}
-use Rattle.speeds.specs.Meaning.{secondZero}
+use Rattle.rows.specs.Answer.{refused}
+use Rattle.speeds.specs.Meaning.{speedFor}
 use Rattle.shorthand.specs.declared.Item.{Item}
 use Rattle.shorthand.specs.declared.Format.{Format}
 use Rattle.shorthand.specs.Layout.{Way, by-letter, by-both, by-tab, wayOf, width, missingOf, fewest}
@@ -44,10 +45,10 @@ short-cut (block-short (c ∷ s) p) nay = faults.in-block (c ∷ s) p (omega ari
 pub data Told (f : Format) : ℕ → List ℕ → List ℕ → List ℕ → Type 0 where
   misfit : {n c : ℕ} {x b ds : List ℕ} → x ≡ b ++ ds → Misfit f n x c → Begins f x → Told f n b ds (c ∷ [])
   no-lf-behind : {n c : ℕ} {b : List ℕ} → EndDue f n b → (c ≡ 10 → ⊥) → Begins f (b ++ (13 ∷ [])) → Told f n b [] (13 ∷ c ∷ [])
-  code : {k : ℕ} {it : Item} {b : List ℕ} (c : ℕ) → SpeedDue f it k b → c < 10 ^ k → T (secondZero k c) → Begins f b → Told f 13 b [] (address (wayOf f) it ++ digits k c)
+  code : {k : ℕ} {it : Item} {b : List ℕ} (c : ℕ) → SpeedDue f it k b → c < 10 ^ k → speedFor k c ≡ refused 13 0 → Begins f b → Told f 13 b [] (address (wayOf f) it ++ digits k c)
   short : {n : ℕ} {x b ds : List ℕ} → x ≡ b ++ ds → Short f n x → Begins f x → Told f n b ds []
-  spoilt : {k c : ℕ} {it : Item} {b x ds : List ℕ} → b ≡ x ++ address (wayOf f) it → SpeedDue f it k x → Spoilt ds → length ds ≤ k → Misfit f 11 (b ++ ds) c → Told f 11 b ds (c ∷ [])
-  spoilt-short : {k : ℕ} {it : Item} {b x ds : List ℕ} → b ≡ x ++ address (wayOf f) it → SpeedDue f it k x → Spoilt ds → Every Digit ds → length ds < k → Short f 14 (b ++ ds) → Told f 14 b ds []
+  spoilt : {k c : ℕ} {it : Item} {b x ds : List ℕ} → b ≡ x ++ address (wayOf f) it → SpeedDue f it k x → Spoilt k ds → Misfit f 11 (b ++ ds) c → Told f 11 b ds (c ∷ [])
+  spoilt-short : {k : ℕ} {it : Item} {b x ds : List ℕ} → b ≡ x ++ address (wayOf f) it → SpeedDue f it k x → Spoilt k ds → Every Digit ds → length ds < k → Short f 14 (b ++ ds) → Told f 14 b ds []
 
 miscounted-most : {least most c : ℕ} {ds : List ℕ} → least ≤ most → Miscounted least most ds c → length ds ≤ most
 miscounted-most l (too-few h n) = omega arith
@@ -96,7 +97,7 @@ module _ {f : Format} (it : Item) (w : Widths (it .kind)) (x : List ℕ) (due : 
       go : Outlook (it .kind) s ds → Told f 11 (x ++ (own ++ (s ++ []))) ds (c ∷ [])
       go (open-to o h) = misfit (apart x own s ds) fits (figures-begin it w x due s ds o h)
       go (spoilt-for e n h) =
-          spoilt {x = x} (unsigned s n) (record { speed = e; due = due }) h (subst (λ j. length ds ≤ width j) e (miscounted-most wide m)) (subst (λ l. Misfit f 11 l c) (apart x own s ds) fits)
+          spoilt {x = x} (unsigned s n) (record { speed = e; due = due }) h (subst (λ l. Misfit f 11 l c) (apart x own s ds) fits)
   word-told (in-data (in-figures {s = s} g (cut {ds} all l))) = go (outlook (it .kind) w g ds all (omega (arith, wide)))
     where
       few : Short f 14 (x ++ own ++ (s ++ ds))

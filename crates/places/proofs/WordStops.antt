@@ -1,7 +1,7 @@
 -- How an item's word goes from its first row on, 13 among its stops.
 use Prim.Native.Nat.{ℕ, _^_, _<_}
 use mathlib.Core.Path.{_≡_, refl, sym, ap, _∙_, subst}
-use mathlib.Core.Logic.{inl, inr}
+use mathlib.Core.Logic.{_⊎_, inl, inr}
 use mathlib.Core.Bool.{Bool, true, false, _||_, cond, false≢true}
 use mathlib.Core.List.{List, [], _∷_, _++_, append-assoc}
 use native.Mathlib.Omega.{arith}
@@ -11,7 +11,9 @@ use borrow.Author.Tests.{eqb-true}
 use Rattle.rows.specs.Answer.{Answer, taken, refused, _>>=_}
 use Rattle.rows.specs.Kept.{KeptRow}
 use Rattle.rows.specs.Passes.{Every}
-use Rattle.speeds.specs.Meaning.{meaning, secondZero, speedFor}
+use Rattle.speeds.specs.declared.Speed.{Speed}
+use Rattle.speeds.specs.Meaning.{speedFor}
+use Rattle.speeds.proofs.Answers.{code-judged}
 use Rattle.shorthand.specs.declared.Missing.the-variants.{Nothing}
 use Rattle.shorthand.specs.declared.Kind.{Kind}
 use Rattle.shorthand.specs.declared.Kind.the-variants.{Plain}
@@ -34,7 +36,6 @@ use Rattle.places.specs.Faults.{Enters}
 use Rattle.places.proofs.Steady.{Next, next-any, Refuses, refuses-bind, held-after, Goes, took, held, goes-alone}
 use Rattle.places.proofs.DigitLists.{digit-is, coded, some-punched, some-width, fewest-some}
 use Rattle.places.proofs.Dues.{Some, stands}
-use Rattle.places.proofs.SpeedDigits.{speed-is}
 use Rattle.places.proofs.FigureStops.{Figured, Firm, figured-firm, suits, figures-are}
 use Rattle.places.proofs.SignStops.{Given, DataStop, given, given-goes}
 
@@ -72,7 +73,7 @@ full-digits j m u h =
 -- the rows u are data, and mean something; or 13, wherever the word begins
 data Judged (k : Kind) (neg : Bool) (m : ℕ) (u : List ℕ) : Type 0 where
   means : {x : Value} → ((a : ℕ) → meant a k neg m ≡ taken x) → (v : Value) × Data k v u → Judged k neg m u
-  second : {j : ℕ} → ((a : ℕ) → meant a k neg m ≡ refused 13 a) → k ≡ Kind.Speed j → m < 10 ^ j → u ≡ digits j m → T (secondZero j m) → Judged k neg m u
+  second : {j : ℕ} → ((a : ℕ) → meant a k neg m ≡ refused 13 a) → k ≡ Kind.Speed j → m < 10 ^ j → u ≡ digits j m → speedFor j m ≡ refused 13 0 → Judged k neg m u
 
 module _ (neg : Bool) (m : ℕ) (u : List ℕ) where
   judged : (k : Kind) {rest : List KeptRow} → Widths k → Given k (neg, m) u rest → Judged k neg m u
@@ -83,13 +84,11 @@ module _ (neg : Bool) (m : ℕ) (u : List ℕ) where
   judged (Kind.Speed j) w g =
       let e : u ≡ g .ds = g .split ∙ ap (λ s. s ++ g .ds) (barred-none (g .signs 0)) in
       let f = full-digits j m (g .ds) (g .figured) in
-      go (e ∙ f .1) (f .0) (secondZero j m) refl
+      go (e ∙ f .1) (f .0) (code-judged j m (w .0) (w .1) (f .0))
     where
-      go : u ≡ digits j m → m < 10 ^ j → (b : Bool) → secondZero j m ≡ b → Judged (Kind.Speed j) neg m u
-      go e f true z = second (λ a. rw (speed-is j (w .0) (w .1) m f, z)) refl f e (subst T (sym z) tt)
-      go e f false z =
-          let q : speedFor j m ≡ taken (meaning j m) = speed-is j (w .0) (w .1) m f ∙ rw z in
-          means {x = Value.Speed (meaning j m)} (λ a. rw q) (rw e (_, speed m q))
+      go : u ≡ digits j m → m < 10 ^ j → ((s : Speed) × (speedFor j m ≡ taken s)) ⊎ (speedFor j m ≡ refused 13 0) → Judged (Kind.Speed j) neg m u
+      go e f (inl (s, q)) = means {x = Value.Speed s} (λ a. rw q) (rw e (_, speed m q))
+      go e f (inr q) = second (λ a. rw q) refl f e q
   judged (Kind.Dimension d) w g =
       let p = some-punched (missingOf (Kind.Dimension d)) (width (Kind.Dimension d)) (g .ds) (g .figured .all) (g .figured .least) (g .figured .most) in
       means (λ a. refl) (rw (g .split) (_, dimension (g .signs (p .0)) (p .1)))
@@ -142,15 +141,11 @@ SomeWord y it w u rest = Some y it u × ((x : List ℕ) → Firm y (x ++ u) rest
 
 pub data WordStop (y : Way) (it : Item) : ℕ → List ℕ → List ℕ → List ℕ → Type 0 where
   in-data : {n : ℕ} {b ds w : List ℕ} → DataStop y (it .kind) n b ds w → WordStop y it n (address y it ++ b) ds w
-  thirteen : {j : ℕ} (c : ℕ) → it .kind ≡ Kind.Speed j → c < 10 ^ j → T (secondZero j c) → WordStop y it 13 [] [] (address y it ++ digits j c)
+  thirteen : {j : ℕ} (c : ℕ) → it .kind ≡ Kind.Speed j → c < 10 ^ j → speedFor j c ≡ refused 13 0 → WordStop y it 13 [] [] (address y it ++ digits j c)
 
 refuses-wrong : (A : Type 0) (len : ℕ) (w : Wanted) (l : List KeptRow) → Refuses (wrong {A = A} len w l)
 refuses-wrong A len w [] = tt
 refuses-wrong A len w (r ∷ l) = tt
-
-true-is : (b : Bool) → T b → b ≡ true
-true-is true t = refl
-true-is false t = absurd t
 
 -- the digits of a refused code are refused, whatever stands behind them
 module _ (len j : ℕ) (speeds : Widths (Kind.Speed j)) where
@@ -166,11 +161,11 @@ module _ (len j : ℕ) (speeds : Widths (Kind.Speed j)) where
       go false [] = refl
       go false (r ∷ l) = refl
 
-  code-refused : (letter a c : ℕ) (u l : List KeptRow) → c < 10 ^ j → T (secondZero j c) → chars u ≡ digits j c → Refuses (wordAt len (record { letter = letter; kind = Kind.Speed j }) a (u ++ l))
+  code-refused : (letter a c : ℕ) (u l : List KeptRow) → c < 10 ^ j → speedFor j c ≡ refused 13 0 → chars u ≡ digits j c → Refuses (wordAt len (record { letter = letter; kind = Kind.Speed j }) a (u ++ l))
   code-refused letter a c u l small zero are =
       let n : length u ≡ j = sym (length-map u (λ s. s .char)) ∙ ap length are ∙ digits-length j c in
       let w : worth 0 (chars u) ≡ c = ap (worth 0) are ∙ digits-worth j c 0 small ∙ omega arith in
-      let told : speedFor j (worth 0 (chars u)) ≡ refused 13 0 = ap (speedFor j) w ∙ speed-is j (speeds .0) (speeds .1) c small ∙ rw (true-is (secondZero j c) zero) in
+      let told : speedFor j (worth 0 (chars u)) ≡ refused 13 0 = ap (speedFor j) w ∙ zero in
       rw (word-is len (record { letter = letter; kind = Kind.Speed j }) a (u ++ l), given-digits u l (subst (Every Digit) (sym are) (digits-digit j c small)) n)
       (go told (suits Nothing j u l))
     where

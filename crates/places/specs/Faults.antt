@@ -1,15 +1,15 @@
 -- What a refusal of the fourth stage says, by its number and place, of the rows (document 01, "Refusal numbers" and its paragraph on order).
-use Prim.Native.Nat.{ℕ, _^_, _<_}
+use Prim.Native.Nat.{ℕ, _^_, _≤_, _<_}
 use mathlib.Core.Path.{_≡_}
 use mathlib.Core.Logic.{_⊎_}
 use mathlib.Core.Bool.{Bool, true, cond}
 use mathlib.Core.List.{List, [], _∷_, _++_}
 use lib.ListN.{length}
 use lib.IntN.{ℤ}
-use lib.Dec.{T}
+use Rattle.rows.specs.Answer.{refused}
 use Rattle.rows.specs.Kept.{KeptRow, kept}
 use Rattle.rows.specs.Passes.{Every, Passes}
-use Rattle.speeds.specs.Meaning.{secondZero}
+use Rattle.speeds.specs.Meaning.{speedFor}
 use Rattle.shorthand.specs.declared.Kind.{Kind}
 use Rattle.shorthand.specs.declared.Item.{Item}
 use Rattle.shorthand.specs.declared.Format.{Format}
@@ -100,12 +100,10 @@ pub record SpeedDue (f : Format) (it : Item) (k : ℕ) (x : List ℕ) : Type 0 w
   pub speed : it .kind ≡ Kind.Speed k
   pub due : Due f it x
 
--- the second digit is zero and not all are, so that no further digits make a speed
-pub record Spoilt (ds : List ℕ) : Type 0 where
-  pub first : ℕ
-  pub others : List ℕ
-  pub second : ds ≡ first ∷ 48 ∷ others
-  pub some : Every (λ c. c ≡ 48) ds → ⊥
+-- whatever digits follow these, the code of k digits that they begin is refused by 13
+pub record Spoilt (k : ℕ) (ds : List ℕ) : Type 0 where
+  pub fits : length ds ≤ k
+  pub lost : (c : ℕ) (more : List ℕ) → c < 10 ^ k → ds ++ more ≡ digits k c → speedFor k c ≡ refused 13 0
 
 -- ---- the refusals
 
@@ -118,17 +116,17 @@ pub data Refusal (f : Format) (len : ℕ) (rs : List KeptRow) : ℕ → ℕ → 
       → Begins f (chars b ++ (13 ∷ [])) → (Begins f (chars b ++ (13 ∷ (r .char ∷ []))) → ⊥) → Refusal f len rs n (cr .place)
   -- 13 at the word's first row, its address or without one its first digit: the rows before it begin a program's, and up to its last digit no more; a further digit would be 11
   at-word : {k : ℕ} {it : Item} (c : ℕ) (b w a : List KeptRow) (r : KeptRow) → rs ≡ b ++ (r ∷ (w ++ a)) → SpeedDue f it k (chars b) → chars (r ∷ w) ≡ address (wayOf f) it ++ digits k c
-      → c < 10 ^ k → T (secondZero k c) → ((d : KeptRow) (l : List KeptRow) → a ≡ d ∷ l → Digit (d .char) → ⊥) → Begins f (chars b) → (Begins f (chars b ++ chars (r ∷ w)) → ⊥)
+      → c < 10 ^ k → speedFor k c ≡ refused 13 0 → ((d : KeptRow) (l : List KeptRow) → a ≡ d ∷ l → Digit (d .char) → ⊥) → Begins f (chars b) → (Begins f (chars b ++ chars (r ∷ w)) → ⊥)
       → Refusal f len rs 13 (r .place)
   -- 8, 14 at the length: all rows begin a program's
   at-length : {n : ℕ} → Cut f n (chars rs) → Begins f (chars rs) → Refusal f len rs n len
   -- 11 before 13: the digits ds before the wrong row are past saving; other digits in their place begin a program's rows, and with the wrong row none do
   past-saving : {k : ℕ} {it : Item} (b ds a : List KeptRow) (r : KeptRow) (x : List ℕ) → rs ≡ b ++ (ds ++ (r ∷ a)) → SpeedDue f it k x → chars b ≡ x ++ address (wayOf f) it
-      → Spoilt (chars ds) → Every Digit (chars ds) → Misfit f 11 (chars b ++ chars ds) (r .char) → (Begins f (chars b ++ chars ds) → ⊥)
+      → Spoilt k (chars ds) → Every Digit (chars ds) → Misfit f 11 (chars b ++ chars ds) (r .char) → (Begins f (chars b ++ chars ds) → ⊥)
       → ((o : List ℕ) × Every Digit o × (length o ≡ length ds) × Begins f (chars b ++ o))
       → ((o : List ℕ) → Every Digit o → length o ≡ length ds → Begins f (chars b ++ (o ++ (r .char ∷ []))) → ⊥) → Refusal f len rs 11 (r .place)
   -- the same where the tape ends before there are enough digits
-  cut-past-saving : {k : ℕ} {it : Item} (b ds : List KeptRow) (x : List ℕ) → rs ≡ b ++ ds → SpeedDue f it k x → chars b ≡ x ++ address (wayOf f) it → Spoilt (chars ds)
+  cut-past-saving : {k : ℕ} {it : Item} (b ds : List KeptRow) (x : List ℕ) → rs ≡ b ++ ds → SpeedDue f it k x → chars b ≡ x ++ address (wayOf f) it → Spoilt k (chars ds)
       → Every Digit (chars ds) → length ds < k → Cut f 14 (chars rs) → (Begins f (chars rs) → ⊥)
       → ((o : List ℕ) × Every Digit o × (length o ≡ length ds) × Begins f (chars b ++ o))
       → Refusal f len rs 14 len

@@ -60,9 +60,9 @@ pub data TapePlace (e : ℕ) (s p t : List ℕ) : ℕ → ℕ → Type 0 where
   -- 8 and 14: the whole tape still could, and is no program's itself
   ended : {n : ℕ} → (n ≡ 8) ⊎ (n ≡ 14) → Opens e s p t → ((bs : List Block) → LongTape e s p bs t → ⊥) → TapePlace e s p t n (length t)
   -- 11 before 13: the digits ds before row r are past saving; with other digits, as many, behind the same address the rows could, and with r behind them, whatever the digits, no more
-  past-saving : (b v a : List KeptRow) (l r : KeptRow) (m ds : List ℕ) → kept t ≡ b ++ (l ∷ (v ++ (r ∷ a))) → chars (l ∷ v) ≡ m ++ ds → Address (lastOf (chars b)) m → Spoilt ds → Every Digit ds
+  past-saving : {k : ℕ} (b v a : List KeptRow) (l r : KeptRow) (m ds : List ℕ) → kept t ≡ b ++ (l ∷ (v ++ (r ∷ a))) → chars (l ∷ v) ≡ m ++ ds → Address (lastOf (chars b)) m → Spoilt k ds → Every Digit ds
       → Shuts e s p (take (r .place) t) → ((o : List ℕ) × Every Digit o × (length o ≡ length ds) × Opens e s p (instead t l (m ++ o)))
       → ((o : List ℕ) → Every Digit o → length o ≡ length ds → Shuts e s p (instead t l (m ++ (o ++ (r .char ∷ []))))) → TapePlace e s p t 11 (r .place)
   -- the same where the tape ends before there are enough digits
-  cut-past-saving : (b v : List KeptRow) (l : KeptRow) (m ds : List ℕ) → kept t ≡ b ++ (l ∷ v) → chars (l ∷ v) ≡ m ++ ds → Address (lastOf (chars b)) m → Spoilt ds → Every Digit ds → Shuts e s p t
+  cut-past-saving : {k : ℕ} (b v : List KeptRow) (l : KeptRow) (m ds : List ℕ) → kept t ≡ b ++ (l ∷ v) → chars (l ∷ v) ≡ m ++ ds → Address (lastOf (chars b)) m → Spoilt k ds → Every Digit ds → Shuts e s p t
       → ((o : List ℕ) × Every Digit o × (length o ≡ length ds) × Opens e s p (instead t l (m ++ o))) → TapePlace e s p t 14 (length t)

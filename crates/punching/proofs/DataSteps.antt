@@ -8,11 +8,10 @@ use native.Mathlib.Omega.{arith}
 use borrow.Author.Tests.{lt-ltb, le-ltb}
 use denote.Enum.Declared.{tagOf}
 use Rattle.words.proofs.Value.{the-type}
-use Rattle.speeds.proofs.Answers.{speed-read}
-use Rattle.speeds.proofs.ExactCode.{exact-means}
 use lib.IntN.{ℤ, natAbs}
 use Rattle.rows.specs.Answer.{taken, refused, _>>_}
 use Rattle.speeds.specs.declared.Exact.the-variants.{Inexact, Means}
+use Rattle.speeds.specs.declared.Speed.{Speed}
 use Rattle.speeds.specs.Coding.{exactFor}
 use Rattle.shorthand.specs.declared.Figures.{Figures}
 use Rattle.shorthand.specs.declared.Kind.{Kind}
@@ -49,9 +48,6 @@ module _ (i : ℕ) where
 
 -- ---- a number
 
-pub code-short : (k v c : ℕ) → Means c ≡ exactFor k v → c < 10 ^ k
-code-short k v c e = speed-read k c v (exact-means k v c (sym e)) .short
-
 module _ (i n v : ℕ) where
   pub plain-fits : v < 10 ^ n → dataFor i (Plain n) (Number v) ≡ taken (digits n v)
   plain-fits h = rw (lt-ltb v (10 ^ n) h)
@@ -59,6 +55,9 @@ module _ (i n v : ℕ) where
   pub plain-large : 10 ^ n ≤ v → dataFor i (Plain n) (Number v) ≡ refused 17 i
   plain-large h = rw (le-ltb v (10 ^ n) h)
 
+-- ---- a speed
+
+module _ (i n : ℕ) (v : Speed) where
   pub speed-coded : (c : ℕ) → Means c ≡ exactFor n v → dataFor i (Kind.Speed n) (Value.Speed v) ≡ taken (digits n c)
   speed-coded c e = rw (← e)
 

@@ -13,6 +13,7 @@ use Rattle.rows.specs.Answer.{taken, refused, _>>_}
 use Rattle.rows.proofs.Outcomes.{Holds, refusal, value, holds-map, of-taken, of-refused}
 use Rattle.speeds.specs.declared.Exact.{Exact}
 use Rattle.speeds.specs.declared.Exact.the-variants.{Inexact, Means}
+use Rattle.speeds.specs.declared.Speed.{Speed}
 use Rattle.speeds.specs.Coding.{exactFor}
 use Rattle.speeds.proofs.ExactCode.{exact-means}
 use Rattle.shorthand.specs.declared.Missing.{Missing}
@@ -84,7 +85,7 @@ module _ {Q : ℕ → ℕ → Type 0} where
   fits-then (refusal h) f = refusal h
   fits-then (value h) f = f h
 
-  code-fits : (i k v : ℕ) (x : Exact) → exactFor k v ≡ x → Q 18 i → Holds Q (λ _. Data (Kind.Speed k) (Value.Speed v) (codeRows k x)) (coded i x)
+  code-fits : (i k : ℕ) (v : Speed) (x : Exact) → exactFor k v ≡ x → Q 18 i → Holds Q (λ _. Data (Kind.Speed k) (Value.Speed v) (codeRows k x)) (coded i x)
   code-fits i k v (Means c) e q = value (speed c (exact-means k v c e))
   code-fits i k v Inexact e q = refusal q
 

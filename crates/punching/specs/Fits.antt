@@ -36,14 +36,14 @@ coded i Inexact = refused 18 i
 abbrev pub valueFits : ℕ → Kind → Value → Fit
 valueFits i (Plain n) (Number v) = unless (ltb v (10 ^ n)) 17 i
 valueFits i (Plain n) (Value.Dimension z) = refused 16 i
-valueFits i (Plain n) (Value.Speed v) = refused 16 i
+valueFits i (Plain n) (Value.Speed s) = refused 16 i
 valueFits i (Kind.Speed k) (Number v) = refused 16 i
 valueFits i (Kind.Speed k) (Value.Dimension z) = refused 16 i
-valueFits i (Kind.Speed k) (Value.Speed v) = coded i (exactFor k v)
+valueFits i (Kind.Speed k) (Value.Speed s) = coded i (exactFor k s)
 valueFits i (Kind.Dimension d) (Number v) = refused 16 i
 valueFits i (Kind.Dimension d) (Value.Dimension z) =
     unless (ltb (natAbs z) (10 ^ width (Kind.Dimension d)) && not (minus z && not (mayStand (signOf (Kind.Dimension d))))) 17 i
-valueFits i (Kind.Dimension d) (Value.Speed v) = refused 16 i
+valueFits i (Kind.Dimension d) (Value.Speed s) = refused 16 i
 
 -- words from i on among the items still to come: a letter that none of them has is not an item, or out of order: 16
 unfoldable pub wordsFit : ℕ → List Item → List Word → Fit

@@ -43,13 +43,13 @@ codeRows k Inexact = []
 abbrev pub dataRows : Kind → Value → List ℕ
 dataRows (Plain n) (Number v) = digits n v
 dataRows (Plain n) (Value.Dimension z) = []
-dataRows (Plain n) (Value.Speed v) = []
+dataRows (Plain n) (Value.Speed s) = []
 dataRows (Kind.Speed k) (Number v) = []
 dataRows (Kind.Speed k) (Value.Dimension z) = []
-dataRows (Kind.Speed k) (Value.Speed v) = codeRows k (exactFor k v)
+dataRows (Kind.Speed k) (Value.Speed s) = codeRows k (exactFor k s)
 dataRows (Kind.Dimension d) (Number v) = []
 dataRows (Kind.Dimension d) (Value.Dimension z) = signRows (signOf (Kind.Dimension d)) z ++ digits (width (Kind.Dimension d)) (natAbs z)
-dataRows (Kind.Dimension d) (Value.Speed v) = []
+dataRows (Kind.Dimension d) (Value.Speed s) = []
 
 -- words in the items' order, with tabs up to the last of them
 unfoldable pub wordRows : Way → List Item → List Word → List ℕ

@@ -63,16 +63,16 @@ fn put_plain(line: &mut [u8], at: usize, n: u8, value: Value, word: usize) -> Gr
     Grown::To(put_digits(line, at, width, v))
 }
 
-// A speed by its exact code: a speed that would have to be rounded is 18.
+// A speed by its exact code: one that has none, rounded or no rate, is 18.
 fn put_speed(line: &mut [u8], at: usize, k: u8, value: Value, word: usize) -> Grown
-    requires { ⌜ (3 ≤ k) × (k ≤ 5) × (at + 19 ≤ length (now line)) ⌝ }
+    requires { ⌜ (2 ≤ k) × (k ≤ 5) × (at + 19 ≤ length (now line)) ⌝ }
     ensures told { λ r. ⌜ grownTold (now (line .exit)) r ≡ behind (take at (now (line .entry))) (dataFor word (Kind.Speed k) value) ⌝ }
     ensures end { λ r. ⌜ endOf r ≤ at + 19 ⌝ }
 {
-    let Value::Speed(v) = value else {
+    let Value::Speed(speed) = value else {
         return refuse(16, word);
     };
-    let Exact::Means(code) = speeds::exact_code(k as u32, v) else {
+    let Exact::Means(code) = speeds::exact_code(k as u32, speed) else {
         return refuse(18, word);
     };
     Grown::To(put_digits(line, at, k as usize, code))

@@ -15,7 +15,7 @@ use Rattle.shorthand.specs.declared.Format.{Format}
 use Rattle.shorthand.specs.Layout.{Way, by-letter, by-both, by-tab, Sign}
 use Rattle.shorthand.specs.Facts.{Fair, more, Facts}
 use Rattle.shorthand.specs.Edition.{letters}
-use Rattle.speeds.proofs.Answers.{speed-read}
+use Rattle.speeds.proofs.Answers.{read-short}
 use Rattle.words.specs.declared.Value.{Value}
 use Rattle.words.specs.declared.Word.{Word}
 use Rattle.reading.specs.declared.Block.{Block}
@@ -52,7 +52,7 @@ sign-bare plus-missing = tt
 
 data-bare : {k : Kind} {v : Value} {ds : List ℕ} → Data k v ds → Bare ds
 data-bare (number {ds = ds} p) = digits-bare ds (figures-digit p)
-data-bare (speed {k = k} {v = v} c e) = digits-bare (digits k c) (digits-digit k c (speed-read k c v e .short))
+data-bare (speed {k = k} c e) = digits-bare (digits k c) (digits-digit k c (read-short k c e))
 data-bare (dimension {s = s} {ds = ds} g p) = joined s ds (sign-bare g) (digits-bare ds (figures-digit p))
 
 address-bare : (y : Way) (it : Item) → T (bare (it .letter)) → Bare (address y it)

@@ -9,6 +9,7 @@ use lib.IntN.{ℤ}
 use borrow.Author.Tests.{eqb-true}
 use Rattle.rows.specs.Answer.{Answer, taken, refused}
 use Rattle.rows.specs.Kept.{KeptRow}
+use Rattle.speeds.specs.declared.Speed.{Speed}
 use Rattle.speeds.specs.Meaning.{speedFor}
 use Rattle.shorthand.specs.declared.Missing.the-variants.{Nothing}
 use Rattle.shorthand.specs.declared.Kind.{Kind}
@@ -76,7 +77,7 @@ module _ {Q : ℕ → ℕ → Type 0} {P : ℕ → Type 0} {len : ℕ} (t : Tabl
       (λ e. holds-cond (mayStand s) (λ may. value (record { took = r ∷ []; split = refl; stands = sign-stands s (r .char) may (sign-is (r .char) e) })) (λ bars. refusal told))
       (λ e. holds-cond (mayMiss s) (λ may. reads-done (sign-missing s may)) (λ asks. refusal told))
 
-  speed-told : (a k c : ℕ) (x : Answer ℕ) → speedFor k c ≡ x → Holds (λ n p. Q n a) (λ v. Unit {0}) x → Holds Q (λ v. Data (Kind.Speed k) v (digits k c)) (spoken a x)
+  speed-told : (a k c : ℕ) (x : Answer Speed) → speedFor k c ≡ x → Holds (λ n p. Q n a) (λ v. Unit {0}) x → Holds Q (λ v. Data (Kind.Speed k) v (digits k c)) (spoken a x)
   speed-told a k c (taken v) e h = value (speed c e)
   speed-told a k c (refused n p) e (refusal h) = refusal h
 

@@ -1,16 +1,16 @@
 -- Every refusal of the fourth stage is one of its table: 8 to 14, at a kept row or at the tape's length.
 use Prim.Native.Nat.{ℕ, _≤_, _<_, _^_}
 use mathlib.Core.Path.{_≡_, refl}
-use mathlib.Core.Logic.{_⊎_, inl, inr}
+use mathlib.Core.Logic.{_⊎_, inl, inr, ⊎-elim}
 use mathlib.Core.List.{List, [], _∷_, map, List·Memᴰ, List·Memᴰ·head, List·Memᴰ·tail}
 use native.Mathlib.Omega.{arith}
 use lib.Dec.{lit≤}
-use borrow.Author.Tests.{le-leb, lt-ltb}
 use Rattle.rows.specs.Answer.{refused}
 use Rattle.rows.specs.Kept.{KeptRow}
 use Rattle.rows.specs.Passes.{Every}
-use Rattle.rows.proofs.Outcomes.{Holds, refusal, value, holds-cond, of-refused}
-use Rattle.speeds.specs.Meaning.{speedFor, secondZero}
+use Rattle.rows.proofs.Outcomes.{Holds, refusal, value, of-refused}
+use Rattle.speeds.specs.Meaning.{speedFor}
+use Rattle.speeds.proofs.Answers.{code-judged}
 use Rattle.shorthand.specs.declared.Kind.{Kind}
 use Rattle.shorthand.specs.declared.Kind.the-variants.{Plain}
 use Rattle.shorthand.specs.declared.Item.{Item}
@@ -46,16 +46,14 @@ module _ {len : ℕ} {rs : List KeptRow} where
 
 -- ---- every refusal is in it
 
--- a code of 3 to 5 digits is refused only by 13
-speed-sayable : {Q : ℕ → Type 0} (k c : ℕ) → 3 ≤ k → k ≤ 5 → c < 10 ^ k → Q 13 → Holds (λ n p. Q n) (λ v. Unit {0}) (speedFor k c)
-unfolding speedFor
-speed-sayable k c lo hi fits q =
-    rw (le-leb 3 k lo, le-leb k 5 hi, lt-ltb c (10 ^ k) fits) (holds-cond (secondZero k c) (λ e. refusal q) (λ e. value tt))
+-- a code of a speed item is refused only by 13
+speed-sayable : {Q : ℕ → Type 0} (k c : ℕ) → Widths (Kind.Speed k) → c < 10 ^ k → Q 13 → Holds (λ n p. Q n) (λ v. Unit {0}) (speedFor k c)
+speed-sayable k c w fits q = ⊎-elim (λ s. rw (s .1) (value tt)) (λ e. rw e (refusal q)) (code-judged k c (w .0) (w .1) fits)
 
 module _ (len : ℕ) (rs : List KeptRow) where
   kind-sayable : (k : Kind) → Widths k → Sayable (Listed len rs) (AtRow rs) k
   kind-sayable (Plain n) w = tt
-  kind-sayable (Kind.Speed k) w = λ c a h p. speed-sayable {Q = λ n. Listed len rs n a} k c (w .0) (w .1) h (at-row (lit≤ tt) (lit≤ tt) p)
+  kind-sayable (Kind.Speed k) w = λ c a h p. speed-sayable {Q = λ n. Listed len rs n a} k c w h (at-row (lit≤ tt) (lit≤ tt) p)
   kind-sayable (Kind.Dimension d) w = tt
 
   fair-sayable : {its : List Item} → Fair its → Every (λ it. Sayable (Listed len rs) (AtRow rs) (it .kind)) its

@@ -1,18 +1,18 @@
 -- A word that stands as its item allows is read: its figures, its sign, its data.
 use Prim.Native.Nat.{ℕ, _^_, _≤_, _<_}
 use mathlib.Core.Path.{_≡_, refl, ap, _∙_}
-use mathlib.Core.Bool.{Bool, true, false, _&&_, cond}
+use mathlib.Core.Bool.{Bool, true, false}
 use mathlib.Core.List.{List, [], _∷_, _++_, append-assoc}
 use native.Mathlib.Nat.{zero-add}
 use native.Mathlib.Omega.{arith}
 use lib.ListN.{length, length-append}
 use lib.IntN.{ℤ}
-use lib.Dec.{eqb, ltb}
-use borrow.Author.Tests.{le-leb, ltb-true}
-use Rattle.rows.specs.Answer.{Answer, taken, refused}
+use lib.Dec.{eqb}
+use borrow.Author.Tests.{le-leb}
+use Rattle.rows.specs.Answer.{taken}
 use Rattle.rows.specs.Kept.{KeptRow}
 use Rattle.rows.specs.Passes.{Every}
-use Rattle.speeds.specs.Meaning.{codeLength, speedFor}
+use Rattle.speeds.proofs.Answers.{read-short}
 use Rattle.shorthand.specs.declared.Missing.{Missing}
 use Rattle.shorthand.specs.declared.Missing.the-variants.{Nothing, Leading, Trailing}
 use Rattle.shorthand.specs.declared.Kind.{Kind}
@@ -101,19 +101,6 @@ no-sign : (ds u : List ℕ) → Every Digit ds → 1 ≤ length ds → heads isS
 no-sign [] u all some = absurd (omega arith)
 no-sign (d ∷ ds) u all some = digit-no-sign d (all .0)
 
--- a code that means a speed has no more digits than it may
-guarded : (b : Bool) (x : Answer ℕ) (v : ℕ) → cond b x (refused 21 0) ≡ taken v → b ≡ true
-guarded true x v e = refl
-guarded false x v e = cc
-
-second : (a b : Bool) → (a && b) ≡ true → b ≡ true
-second true b e = e
-second false b e = cc
-
-pub speed-small : (k c v : ℕ) → speedFor k c ≡ taken v → c < 10 ^ k
-unfolding speedFor
-speed-small k c v e = ltb-true c (10 ^ k) (second (codeLength k) (ltb c (10 ^ k)) (guarded (codeLength k && ltb c (10 ^ k)) _ v e))
-
 -- the sign, the figures and their meaning make the data of any kind
 parts-take : (len a m : ℕ) (k : Kind) {z : ℤ} {s ds : List ℕ} {x : Value} → Signed m (signOf k) z s → Reads (missingOf k) (width k) m ds → 1 ≤ width k
     → ((b : Bool) → signedValue b m ≡ z → meant a k b m ≡ taken x) → (rs : List KeptRow) (u : List ℕ) → chars rs ≡ s ++ (ds ++ u) → heads isDigit u ≡ false
@@ -127,7 +114,7 @@ parts-take len a m k {ds = ds} g p w means rs u e h =
 
 data-takes : {k : Kind} {x : Value} {d : List ℕ} → Data k x d → Widths k → (len a : ℕ) (rs : List KeptRow) (u : List ℕ) → chars rs ≡ d ++ u → heads isDigit u ≡ false → Takes (dataAt len a k rs) x u
 data-takes (number {n} {v} q) w len a rs u e h = parts-take len a v (Plain n) never (reads q) (w .0) (λ b t. refl) rs u e h
-data-takes (speed {k} {v} c q) w len a rs u e h = parts-take len a c (Kind.Speed k) never (reads-full k c (speed-small k c v q)) (omega arith) (λ b t. rw q) rs u e h
+data-takes (speed {k} {v} c q) w len a rs u e h = parts-take len a c (Kind.Speed k) never (reads-full k c (read-short k c q)) (omega arith) (λ b t. rw q) rs u e h
 data-takes (dimension {d} {m} {s = s} {ds} g q) w len a rs u e h =
     parts-take len a m (Kind.Dimension d) g (reads q) (w .2) (λ b t. rw t) rs u (e ∙ append-assoc s ds u) h
 
@@ -149,7 +136,7 @@ reads-front k {ds = ds} p w u = figures-front ds u (p .digit) (omega (arith, p .
 
 pub data-front : {k : Kind} {x : Value} {d : List ℕ} → Data k x d → Widths k → (u : List ℕ) → heads isFigure (d ++ u) ≡ true
 data-front (number {n} q) w u = reads-front (Plain n) (reads q) (w .0) u
-data-front (speed {k} {v} c q) w u = reads-front (Kind.Speed k) (reads-full k c (speed-small k c v q)) (omega arith) u
+data-front (speed {k} {v} c q) w u = reads-front (Kind.Speed k) (reads-full k c (read-short k c q)) (omega arith) u
 data-front (dimension {d} {s = s} {ds} g q) w u = rw (append-assoc s ds u) (sign-front g (ds ++ u) (reads-front (Kind.Dimension d) (reads q) (w .2) u))
 
 -- ---- a word

@@ -9,6 +9,7 @@ use lib.IntN.{ℤ, pos, negℤ}
 use Rattle.rows.specs.Answer.{taken}
 use Rattle.rows.specs.Kept.{KeptRow, kept}
 use Rattle.rows.specs.Passes.{Passes}
+use Rattle.speeds.specs.declared.Speed.{Speed}
 use Rattle.speeds.specs.Meaning.{speedFor}
 use Rattle.shorthand.specs.declared.Missing.{Missing}
 use Rattle.shorthand.specs.declared.Missing.the-variants.{Nothing, Leading, Trailing}
@@ -51,7 +52,7 @@ pub data Signed (m : ℕ) : Sign → ℤ → List ℕ → Type 0 where
 -- a word's data by its item's kind: a plain number in full; a coded speed; a dimension's sign and figures
 pub data Data : Kind → Value → List ℕ → Type 0 where
   number : {n v : ℕ} {ds : List ℕ} → Punched n v Nothing ds → Data (Plain n) (Number v) ds
-  speed : {k v : ℕ} (c : ℕ) → speedFor k c ≡ taken v → Data (Kind.Speed k) (Value.Speed v) (digits k c)
+  speed : {k : ℕ} {v : Speed} (c : ℕ) → speedFor k c ≡ taken v → Data (Kind.Speed k) (Value.Speed v) (digits k c)
   dimension : {d : Figures} {m : ℕ} {z : ℤ} {s ds : List ℕ} → Signed m (signOf (Kind.Dimension d)) z s → Punched (d .before + d .after) m (d .missing) ds
       → Data (Kind.Dimension d) (Value.Dimension z) (s ++ ds)
 

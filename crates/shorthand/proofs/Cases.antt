@@ -22,11 +22,13 @@ abbrev pub bytes : String → List ℕ
 bytes end = []
 bytes (c then s) = code c ∷ bytes s
 
--- annex D's example as in 002 and as printed in 004; then the dots, the order, "*", and what further bytes could mend
+-- annex D's example as in 002 and as printed in 004; then E2, the dots, the order, "*", and what further bytes could mend
 abbrev cases : List Case
 cases =
     case 1057 "N3.G2.X+42.Y+32.Z31.B33.F3.S3.T2.M2*" 0 0
-    ∷ case 1057 "N3.G2.X+42.Y+32.Z31.B33.F2.S2.T2.M2*" 2 23
+    ∷ case 1057 "N3.G2.X+42.Y+32.Z31.B33.F2.S2.T2.M2*" 3 23
+    ∷ case 2539 "N3.G2.X+42.Y+32.Z31.B33.F2.S2.T2.M2*" 0 0
+    ∷ case 2539 "N3.E2.M2*" 2 2
     ∷ case 2539 "N3XD42DD24*" 0 0
     ∷ case 1057 "N3G2*" 3 2
     ∷ case 2539 "N3.G2X42*" 2 5

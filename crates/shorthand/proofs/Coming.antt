@@ -14,13 +14,13 @@ use Rattle.shorthand.specs.Order.{rank, feedRank, used, after}
 use Rattle.shorthand.proofs.Tests.{both, first, second, left, right, either}
 use Rattle.shorthand.proofs.Ranks.{among, among-is}
 use Rattle.shorthand.proofs.Roles.{turn-is, feeding, feeding-is, feed-letter, Role, as-feed, as-dimension, in-turn}
-use Rattle.shorthand.proofs.Steps.{other-last, no-feed, rises, used-before, used-own}
+use Rattle.shorthand.proofs.Steps.{other-last, rises, used-before, used-own}
 
 -- an item that may come has one of the 22 letters
 pub role-letter : {e : Edition} {o : Order} {it : Item} → Role e o it → T (among letters (it .letter))
-role-letter {it = it} (as-feed h l u) = feeding-is (among letters) tt (it .letter) (feed-letter it h)
+role-letter {e} {it = it} (as-feed h l u) = feeding-is (among letters) tt (it .letter) (feed-letter e it h)
 role-letter {it = it} (as-dimension h m l u) = among-is (among letters) axes tt (it .letter) m
-role-letter {it = it} (in-turn t h l) = turn-is it (among letters) tt t h
+role-letter {e} {it = it} (in-turn t h l) = turn-is e it (among letters) tt t h
 
 abbrev ahead : Order → ℕ → Bool
 ahead o c = feeding c && leb (o .last) feedRank || ltb (o .last) (rank c)
@@ -36,12 +36,12 @@ module _ (o : Order) (it : Item) where
   in-order l = right (feeding c && leb (o .last) feedRank) (ltb (o .last) (rank c)) (lt→ltb (o .last) (rank c) l)
 
   pub role-comes : {e : Edition} → Role e o it → T (coming o c)
-  role-comes (as-feed h l u) =
+  role-comes {e} (as-feed h l u) =
       both (not (used o c)) (ahead o c) u
       (left (feeding c && leb (o .last) feedRank) (ltb (o .last) (rank c))
-      (both (feeding c) (leb (o .last) feedRank) (feed-letter it h) (le→leb (o .last) feedRank l)))
+      (both (feeding c) (leb (o .last) feedRank) (feed-letter e it h) (le→leb (o .last) feedRank l)))
   role-comes (as-dimension h m l u) = both (not (used o c)) (ahead o c) u (in-order l)
-  role-comes (in-turn t h l) = both (not (used o c)) (ahead o c) (turn-is it (λ d. not (used o d)) tt t h) (in-order l)
+  role-comes {e} (in-turn t h l) = both (not (used o c)) (ahead o c) (turn-is e it (λ d. not (used o d)) tt t h) (in-order l)
 
   -- what comes behind an item came before it
   pub comes-before : {e : Edition} → Role e o it → (d : ℕ) → T (coming (after o it) d) → T (coming o d)
@@ -71,7 +71,7 @@ module _ (o : Order) (it : Item) where
           T-not (used (after o it) c) (first (not (used (after o it) c)) (ahead (after o it) c) h) (used-own o it (rw p tt)))
       go false p =
           not-T (coming (after o it) c) (λ h.
-          let l = other-last o it (no-feed it (rw p tt)) in
+          let l = other-last o it (rw p tt) in
           let t = rw p at (second (not (used (after o it) c)) (ahead (after o it) c) h) in
           let k = ltb→lt (after o it .last) (rank c) t in
           omega (arith, l))

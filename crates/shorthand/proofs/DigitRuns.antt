@@ -1,16 +1,19 @@
--- The digits that stand together at the front of a text, and what further bytes change of them.
+-- Digits within their bounds, those of a coded speed too; the digits that stand together at the front of a text, and what further bytes change of them.
 use Prim.Native.Nat.{ℕ, _+_, _-_, _≤_}
 use native.Mathlib.Nat.{add-sub-cancel-left}
 use native.Mathlib.Omega.{arith}
 use mathlib.Core.Path.{_≡_, refl, ap, _∙_}
-use mathlib.Core.Bool.{Bool, true, false, cond}
+use mathlib.Core.Bool.{Bool, true, false, _&&_, _||_, cond}
 use mathlib.Core.List.{List, [], _∷_, _++_, map, append-assoc}
-use lib.Dec.{T, leb, leb→le, le→leb}
+use lib.Dec.{T, eqb, leb, leb→le, le→leb}
+use Rattle.shorthand.specs.declared.Edition.{Edition}
+use Rattle.shorthand.specs.declared.Edition.the-variants.{Iso2539}
 use Rattle.shorthand.specs.Spell.{digit, isDigit}
+use Rattle.shorthand.specs.Edition.{later, speedLeast, speedMost}
 use Rattle.shorthand.specs.Lawful.{digitIn}
 use Rattle.shorthand.specs.Stand.{digitsOf, afterDigits}
 use Rattle.shorthand.specs.Mending.{apart}
-use Rattle.shorthand.proofs.Tests.{both, first, second, holds, fails}
+use Rattle.shorthand.proofs.Tests.{both, first, second, holds, fails, by-test}
 
 abbrev pub Small : List ℕ → Type 0
 Small [] = Unit {0}
@@ -24,6 +27,27 @@ inside lo hi d l h = both (leb lo d) (leb d hi) (le→leb lo d l) (le→leb d hi
 
 pub digit-is : (d : ℕ) → d ≤ 9 → isDigit (digit d) ≡ true
 digit-is d h = holds (isDigit (digit d)) (inside 48 57 (48 + d) (omega arith) (omega arith))
+
+-- ---- the digit of a coded speed
+
+module _ (e : Edition) (c : ℕ) where
+  pub least-fits : T (digitIn (speedLeast e c) speedMost (speedLeast e c))
+  least-fits = by-test (λ (n : ℕ). T (digitIn n speedMost n)) (later e && (eqb c 70 || eqb c 83)) (λ h. tt) (λ h. tt)
+
+  pub speed-within : (d : ℕ) → T (digitIn (speedLeast e c) speedMost d) → (2 ≤ d) × (d ≤ 5)
+  speed-within d h =
+      let w = within (speedLeast e c) speedMost d h in
+      let least : 2 ≤ speedLeast e c = by-test (λ (n : ℕ). 2 ≤ n) (later e && (eqb c 70 || eqb c 83)) (λ h. omega arith) (λ h. omega arith) in
+      (omega arith, w .1)
+
+  -- the later edition takes it too
+  pub speed-wider : (d : ℕ) → T (digitIn (speedLeast e c) speedMost d) → T (digitIn (speedLeast Iso2539 c) speedMost d)
+  speed-wider d h = go (later e) (eqb c 70 || eqb c 83) (within (speedLeast e c) speedMost d h)
+    where
+      go : (l s : Bool) → (cond (l && s) 2 3 ≤ d) × (d ≤ 5) → T (digitIn (cond s 2 3) speedMost d)
+      go l true w = inside 2 5 d (speed-within d h .0) (w .1)
+      go true false w = inside 3 5 d (w .0) (w .1)
+      go false false w = inside 3 5 d (w .0) (w .1)
 
 -- ---- the digits of a text that begins with given digits
 

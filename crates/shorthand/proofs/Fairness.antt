@@ -21,7 +21,7 @@ use Rattle.shorthand.specs.Order.{start}
 use Rattle.shorthand.specs.Parse.{parsed}
 use Rattle.shorthand.specs.Facts.{Widths, Fair, none, more, Facts}
 use Rattle.shorthand.proofs.Tests.{second}
-use Rattle.shorthand.proofs.DigitRuns.{within}
+use Rattle.shorthand.proofs.DigitRuns.{within, speed-within}
 use Rattle.shorthand.proofs.MadeKinds.{dimensioned-of}
 use Rattle.shorthand.proofs.Roles.{general, speed, tool, function, Role, as-feed, as-dimension, in-turn, role-of, dimension-kind}
 use Rattle.shorthand.proofs.Grammar.{Items, done, next, due-letter, items-few, ordered-items}
@@ -44,10 +44,10 @@ plain-widths lo hi (Plain n) l m h = let w = within lo hi n h in (omega arith, o
 plain-widths lo hi (Speed n) l m h = absurd h
 plain-widths lo hi (Dimension d) l m h = absurd h
 
-speed-widths : (k : Kind) → T (speedKind k) → Widths k
-speed-widths (Plain n) h = absurd h
-speed-widths (Speed n) h = within 3 5 n h
-speed-widths (Dimension d) h = absurd h
+speed-widths : (e : Edition) (c : ℕ) (k : Kind) → T (speedKind e c k) → Widths k
+speed-widths e c (Plain n) h = absurd h
+speed-widths e c (Speed n) h = speed-within e c n h
+speed-widths e c (Dimension d) h = absurd h
 
 dimension-widths : (e : Edition) (k : Kind) → T (dimensionKind e k) → Widths k
 dimension-widths e (Plain n) h = absurd h
@@ -55,10 +55,10 @@ dimension-widths e (Speed n) h = absurd h
 dimension-widths e (Dimension d) h = let l = dimensioned-of e d h in (l .before, l .after, some-figure e (d .missing) (d .before) (d .after) (l .fits))
 
 role-widths : {e : Edition} {o : Order} {it : Item} → Role e o it → Widths (it .kind)
-role-widths {it = it} (as-feed h l u) = speed-widths (it .kind) (second (eqb (it .letter) 70 || eqb (it .letter) 69 || eqb (it .letter) 68) (speedKind (it .kind)) h)
+role-widths {e} {it = it} (as-feed h l u) = speed-widths e (it .letter) (it .kind) (second (eqb (it .letter) 70 || eqb (it .letter) 69 || eqb (it .letter) 68) (speedKind e (it .letter) (it .kind)) h)
 role-widths {e} {it = it} (as-dimension h m l u) = dimension-widths e (it .kind) (dimension-kind e (it .letter) it h)
 role-widths {it = it} (in-turn general h l) = plain-widths 2 2 (it .kind) (omega arith) (omega arith) (second (eqb (it .letter) 71) (plainKind 2 2 (it .kind)) h)
-role-widths {it = it} (in-turn speed h l) = speed-widths (it .kind) (second (eqb (it .letter) 83) (speedKind (it .kind)) h)
+role-widths {e} {it = it} (in-turn speed h l) = speed-widths e (it .letter) (it .kind) (second (eqb (it .letter) 83) (speedKind e (it .letter) (it .kind)) h)
 role-widths {it = it} (in-turn tool h l) = plain-widths 1 9 (it .kind) (omega arith) (omega arith) (second (eqb (it .letter) 84) (plainKind 1 9 (it .kind)) h)
 role-widths {it = it} (in-turn function h l) = plain-widths 2 2 (it .kind) (omega arith) (omega arith) (second (eqb (it .letter) 77) (plainKind 2 2 (it .kind)) h)
 

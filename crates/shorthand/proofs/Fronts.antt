@@ -1,10 +1,9 @@
 -- Fronts of a text: with one more item, and under the later edition.
 use Prim.Native.Nat.{ℕ}
 use mathlib.Core.Path.{_≡_, refl, sym, ap, subst}
-use mathlib.Core.Bool.{Bool, _&&_, _||_, not}
-use mathlib.Core.Logic.{⊎-elim}
+use mathlib.Core.Bool.{Bool, true, _&&_, not}
 use mathlib.Core.List.{List, [], _∷_, _++_, map, append-assoc, append-nil}
-use lib.Dec.{T, eqb}
+use lib.Dec.{T, eqb, eqb-refl}
 use Rattle.shorthand.specs.declared.Missing.{Missing}
 use Rattle.shorthand.specs.declared.Missing.the-variants.{Nothing, Leading, Trailing}
 use Rattle.shorthand.specs.declared.Kind.{Kind}
@@ -16,14 +15,15 @@ use Rattle.shorthand.specs.declared.Order.{Order}
 use Rattle.shorthand.specs.declared.Edition.{Edition}
 use Rattle.shorthand.specs.declared.Edition.the-variants.{Iso2539}
 use Rattle.shorthand.specs.Spell.{spellKind, spellDot, spellItem}
-use Rattle.shorthand.specs.Edition.{later, sequenceMost, allowed}
+use Rattle.shorthand.specs.Edition.{later, sequenceMost}
 use Rattle.shorthand.specs.Lawful.{plainKind, speedKind, figuresFit, dimensionKind}
-use Rattle.shorthand.specs.Order.{dueAsDimension, feedDue, dimensionDue, turnDue, due, after}
+use Rattle.shorthand.specs.Order.{due, after}
 use Rattle.shorthand.specs.Stand.{figured, dotFits}
 use Rattle.shorthand.specs.Parse.{settle}
-use Rattle.shorthand.proofs.Tests.{both, first, second, left, right, either}
-use Rattle.shorthand.proofs.DigitRuns.{within, inside}
+use Rattle.shorthand.proofs.Tests.{both, first, second}
+use Rattle.shorthand.proofs.DigitRuns.{within, inside, speed-wider}
 use Rattle.shorthand.proofs.MadeKinds.{figured-says, dimensioned-of}
+use Rattle.shorthand.proofs.Roles.{Turn, general, speed, tool, function, testOf, feeding, dimension-kind, Role, as-feed, as-dimension, in-turn, role-of, role-due}
 use Rattle.shorthand.proofs.Standing.{Fit, sequence-small}
 use Rattle.shorthand.proofs.Walking.{Steps, stay, step}
 use Rattle.shorthand.proofs.Answered.{Front}
@@ -83,10 +83,10 @@ plain-widens lo hi (Plain n) = refl
 plain-widens lo hi (Speed n) = refl
 plain-widens lo hi (Dimension d) = refl
 
-speed-widens : (k : Kind) → speedKind (widened k) ≡ speedKind k
-speed-widens (Plain n) = refl
-speed-widens (Speed n) = refl
-speed-widens (Dimension d) = refl
+speed-widens : (e : Edition) (c : ℕ) (k : Kind) → T (speedKind e c k) → T (speedKind Iso2539 c (widened k))
+speed-widens e c (Plain n) h = h
+speed-widens e c (Speed n) h = speed-wider e c n h
+speed-widens e c (Dimension d) h = h
 
 dots-widen : (e : Edition) (dots : Dots) (dot : Bool) → T (dotFits e dots dot) → T (dotFits Iso2539 dots dot)
 dots-widen e Open dot h = tt
@@ -96,21 +96,30 @@ dots-widen e Plainly dot h = h
 abbrev wide : Item → Item
 wide it = record { letter = it .letter; kind = widened (it .kind) }
 
+-- an item keeps its role
+module _ (e : Edition) (it : Item) where
+  abbrev c : ℕ
+  c = it .letter
+
+  abbrev k : Kind
+  k = it .kind
+
+  speeds-wider : (b : Bool) → T (b && speedKind e c k) → T (b && speedKind Iso2539 c (widened k))
+  speeds-wider b h = both b (speedKind Iso2539 c (widened k)) (first b (speedKind e c k) h) (speed-widens e c k (second b (speedKind e c k) h))
+
+  turn-wider : (t : Turn) → T (testOf e t it) → T (testOf Iso2539 t (wide it))
+  turn-wider general h = rw (plain-widens 2 2 k) h
+  turn-wider speed h = speeds-wider (eqb c 83) h
+  turn-wider tool h = rw (plain-widens 1 9 k) h
+  turn-wider function h = rw (plain-widens 2 2 k) h
+
+  role-wider : {o : Order} → Role e o it → Role Iso2539 o (wide it)
+  role-wider (as-feed h l u) = as-feed (speeds-wider (feeding c) h) l u
+  role-wider (as-dimension h m l u) = as-dimension (both (eqb c c && true) (dimensionKind Iso2539 (widened k)) (both (eqb c c) true (eqb-refl c) tt) (dimension-widens e k (dimension-kind e c it h))) m l u
+  role-wider (in-turn t h l) = in-turn t (turn-wider t h) l
+
 due-wider : (e : Edition) (o : Order) (it : Item) → T (due e o it) → T (due Iso2539 o (wide it))
-unfolding due
-due-wider e o it h =
-    let w = wide it in
-    let k = it .kind in
-    let c = it .letter in
-    ⊎-elim
-    (λ p. left (feedDue o w || dimensionDue Iso2539 o w) (turnDue o w)
-    (⊎-elim (λ q. left (feedDue o w) (dimensionDue Iso2539 o w) (rw (speed-widens k) q))
-    (λ q. let m = first (allowed e c && dimensionKind e k) (dueAsDimension o c) q in
-    right (feedDue o w) (dimensionDue Iso2539 o w)
-    (both (dimensionKind Iso2539 (widened k)) (dueAsDimension o c) (dimension-widens e k (second (allowed e c) (dimensionKind e k) m)) (second (allowed e c && dimensionKind e k) (dueAsDimension o c) q)))
-    (either (feedDue o it) (dimensionDue e o it) p)))
-    (λ q. right (feedDue o w || dimensionDue Iso2539 o w) (turnDue o w) (rw (plain-widens 2 2 k, plain-widens 1 9 k, speed-widens k) q))
-    (either (feedDue o it || dimensionDue e o it) (turnDue o it) h)
+due-wider e o it h = role-due Iso2539 o (wide it) (role-wider e it (role-of e o it h))
 
 after-wider : (o : Order) (c : ℕ) (k : Kind) → after o (record { letter = c; kind = widened k }) ≡ after o (record { letter = c; kind = k })
 unfolding after

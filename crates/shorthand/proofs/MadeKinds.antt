@@ -17,12 +17,12 @@ use Rattle.shorthand.specs.Spell.{digit, spellMark, spellFigures, spellK
 use Rattle.shorthand.specs.declared.Item.{Item}
 use Rattle.shorthand.specs.declared.Order.{Order}
 use Rattle.shorthand.specs.declared.Edition.{Edition}
-use Rattle.shorthand.specs.Edition.{later, allowed}
+use Rattle.shorthand.specs.Edition.{later, speedLeast, speedMost, allowed}
 use Rattle.shorthand.specs.Lawful.{digitIn, plainKind, speedKind, figuresFit, dimensionKind, isG, isS, isT, isM}
 use Rattle.shorthand.specs.Order.{dueAsFeed, dueAsDimension, dueInTurn, anyDue, feedDue, dimensionDue, turnDue, due}
-use Rattle.shorthand.specs.Stand.{Made, made, more, wrong, oneDigit, figured, threeDigits, twoDigits, dimensioned, unmarked, either, turnMade, kindMade}
+use Rattle.shorthand.specs.Stand.{Made, made, more, wrong, oneDigit, figured, threeDigits, twoDigits, dimensioned, unmarked, either, speedMade, turnMade, kindMade}
 use Rattle.shorthand.proofs.Tests.{both, first, second, left, right, either as split, holds, fails, and-false, not-not, beq-refl, beq→eq, by-test}
-use Rattle.shorthand.proofs.DigitRuns.{Small, within}
+use Rattle.shorthand.proofs.DigitRuns.{Small, within, least-fits, speed-within}
 use Rattle.shorthand.proofs.Closing.{Makes}
 use Rattle.shorthand.proofs.Roles.{general, speed, tool, function, turn-any}
 use Rattle.shorthand.proofs.Ranks.{none-in-turn, none-as-feed, none-as-dimension}
@@ -193,27 +193,27 @@ module _ (e : Edition) (o : Order) (c : ℕ) where
   Measures = allowed e c && dueAsDimension o c
 
   -- an item that may come in one of its roles may come
-  feed-due : (k : Kind) → T Feeds → T (speedKind k) → T (due e o (itemOf k))
+  feed-due : (k : Kind) → T Feeds → T (speedKind e c k) → T (due e o (itemOf k))
   unfolding due
   feed-due k h s =
       let it = itemOf k in
       let l = eqb c 70 || eqb c 69 || eqb c 68 in
-      left (feedDue o it || dimensionDue e o it) (turnDue o it)
-      (left (feedDue o it) (dimensionDue e o it) (both (l && speedKind k) (dueAsFeed o c) (both l (speedKind k) (first l (dueAsFeed o c) h) s) (second l (dueAsFeed o c) h)))
+      left (feedDue e o it || dimensionDue e o it) (turnDue e o it)
+      (left (feedDue e o it) (dimensionDue e o it) (both (l && speedKind e c k) (dueAsFeed o c) (both l (speedKind e c k) (first l (dueAsFeed o c) h) s) (second l (dueAsFeed o c) h)))
 
   dimension-due : (k : Kind) → T Measures → T (dimensionKind e k) → T (due e o (itemOf k))
   unfolding due
   dimension-due k h s =
       let it = itemOf k in
-      left (feedDue o it || dimensionDue e o it) (turnDue o it)
-      (right (feedDue o it) (dimensionDue e o it)
+      left (feedDue e o it || dimensionDue e o it) (turnDue e o it)
+      (right (feedDue e o it) (dimensionDue e o it)
       (both (allowed e c && dimensionKind e k) (dueAsDimension o c) (both (allowed e c) (dimensionKind e k) (first (allowed e c) (dueAsDimension o c) h) s) (second (allowed e c) (dueAsDimension o c) h)))
 
-  turn-due : (k : Kind) → T (dueInTurn o c) → T (isG (itemOf k) || isS (itemOf k) || isT (itemOf k) || isM (itemOf k)) → T (due e o (itemOf k))
+  turn-due : (k : Kind) → T (dueInTurn o c) → T (isG (itemOf k) || isS e (itemOf k) || isT (itemOf k) || isM (itemOf k)) → T (due e o (itemOf k))
   unfolding due
   turn-due k h s =
       let it = itemOf k in
-      right (feedDue o it || dimensionDue e o it) (turnDue o it) (both (isG it || isS it || isT it || isM it) (dueInTurn o c) s h)
+      right (feedDue e o it || dimensionDue e o it) (turnDue e o it) (both (isG it || isS e it || isT it || isM it) (dueInTurn o c) s h)
 
   one-of-turn : (lo hi : ℕ) (k : ℕ → Kind) → ((d : ℕ) → spellKind (k d) ≡ digit d ∷ []) → T (digitIn lo hi lo) → ((d : ℕ) → T (digitIn lo hi d) → T (due e o (itemOf (k d)))) → (ds : List ℕ)
       → Makes (oneDigit lo hi k) (Makes-due Unmarked) ds (oneDigit lo hi k ds)
@@ -225,38 +225,38 @@ module _ (e : Edition) (o : Order) (c : ℕ) where
   unmarked-makes Plus x ds h = λ es. refl
   unmarked-makes Delta x ds h = λ es. refl
 
-  turn-makes : T (dueInTurn o c) → (ds : List ℕ) → Makes (turnMade c) (Makes-due Unmarked) ds (turnMade c ds)
+  turn-makes : T (dueInTurn o c) → (ds : List ℕ) → Makes (turnMade e c) (Makes-due Unmarked) ds (turnMade e c ds)
   turn-makes h ds = by (eqb c 71) (eqb c 77) (eqb c 84) (eqb c 83) refl refl refl refl
     where
       by : (g m t s : Bool) → eqb c 71 ≡ g → eqb c 77 ≡ m → eqb c 84 ≡ t → eqb c 83 ≡ s
-          → Makes (λ l. cond (g || m) (oneDigit 2 2 Plain l) (cond t (oneDigit 1 9 Plain l) (cond s (oneDigit 3 5 Speed l) wrong))) (Makes-due Unmarked) ds
-          (cond (g || m) (oneDigit 2 2 Plain ds) (cond t (oneDigit 1 9 Plain ds) (cond s (oneDigit 3 5 Speed ds) wrong)))
-      by true m t s p q r v = one-of-turn 2 2 Plain (λ d. refl) tt (λ d k. turn-due (Plain d) h (turn-any (itemOf (Plain d)) general (rw p k))) ds
-      by false true t s p q r v = one-of-turn 2 2 Plain (λ d. refl) tt (λ d k. turn-due (Plain d) h (turn-any (itemOf (Plain d)) function (rw q k))) ds
-      by false false true s p q r v = one-of-turn 1 9 Plain (λ d. refl) tt (λ d k. turn-due (Plain d) h (turn-any (itemOf (Plain d)) tool (rw r k))) ds
-      by false false false true p q r v = one-of-turn 3 5 Speed (λ d. refl) tt (λ d k. turn-due (Speed d) h (turn-any (itemOf (Speed d)) speed (rw v k))) ds
+          → Makes (λ l. cond (g || m) (oneDigit 2 2 Plain l) (cond t (oneDigit 1 9 Plain l) (cond s (speedMade e c l) wrong))) (Makes-due Unmarked) ds
+          (cond (g || m) (oneDigit 2 2 Plain ds) (cond t (oneDigit 1 9 Plain ds) (cond s (speedMade e c ds) wrong)))
+      by true m t s p q r v = one-of-turn 2 2 Plain (λ d. refl) tt (λ d k. turn-due (Plain d) h (turn-any e (itemOf (Plain d)) general (rw p k))) ds
+      by false true t s p q r v = one-of-turn 2 2 Plain (λ d. refl) tt (λ d k. turn-due (Plain d) h (turn-any e (itemOf (Plain d)) function (rw q k))) ds
+      by false false true s p q r v = one-of-turn 1 9 Plain (λ d. refl) tt (λ d k. turn-due (Plain d) h (turn-any e (itemOf (Plain d)) tool (rw r k))) ds
+      by false false false true p q r v = one-of-turn (speedLeast e c) speedMost Speed (λ d. refl) (least-fits e c) (λ d k. turn-due (Speed d) h (turn-any e (itemOf (Speed d)) speed (both (eqb c 83) (speedKind e c (Speed d)) (rw v tt) k))) ds
       by false false false false p q r v = λ es. refl
 
   -- what the digits make in each role
   module _ (m : Mark) where
     abbrev fed : List ℕ → Made Kind
-    fed l = cond Feeds (unmarked m (oneDigit 3 5 Speed l)) wrong
+    fed l = cond Feeds (unmarked m (speedMade e c l)) wrong
 
     abbrev measured : List ℕ → Made Kind
     measured l = cond Measures (dimensioned e m l) wrong
 
     abbrev turned : List ℕ → Made Kind
-    turned l = cond (dueInTurn o c) (unmarked m (turnMade c l)) wrong
+    turned l = cond (dueInTurn o c) (unmarked m (turnMade e c l)) wrong
 
   pub kind-makes : (m : Mark) (ds : List ℕ) → Small ds → Makes (read m) (Makes-due m) ds (read m ds)
   kind-makes m ds small =
       either-makes (Makes-due m) ds (fed m) (λ l. either (measured m l) (turned m l))
-      (if-makes (Makes-due m) ds Feeds (λ l. unmarked m (oneDigit 3 5 Speed l))
-      (λ h. unmarked-makes m (oneDigit 3 5 Speed) ds (one-of-turn 3 5 Speed (λ d. refl) tt (λ d k. feed-due (Speed d) h k) ds)))
+      (if-makes (Makes-due m) ds Feeds (λ l. unmarked m (speedMade e c l))
+      (λ h. unmarked-makes m (speedMade e c) ds (one-of-turn (speedLeast e c) speedMost Speed (λ d. refl) (least-fits e c) (λ d k. feed-due (Speed d) h k) ds)))
       (either-makes (Makes-due m) ds (measured m) (turned m)
       (if-makes (Makes-due m) ds Measures (dimensioned e m)
       (λ h. makes-map (dimensioned e m) (Says e m) (Makes-due m) (λ l k s. (s .0, dimension-due k h (s .1))) ds (dimensioned e m ds) (dimension-makes e m ds small)))
-      (if-makes (Makes-due m) ds (dueInTurn o c) (λ l. unmarked m (turnMade c l)) (λ h. unmarked-makes m (turnMade c) ds (turn-makes h ds))))
+      (if-makes (Makes-due m) ds (dueInTurn o c) (λ l. unmarked m (turnMade e c l)) (λ h. unmarked-makes m (turnMade e c) ds (turn-makes h ds))))
 
   -- a letter that no digits could make an item is wrong whatever follows it
   pub none-wrong : read Unmarked [] ≡ wrong → (m : Mark) (ds : List ℕ) → read m ds ≡ wrong
@@ -276,9 +276,9 @@ module _ (e : Edition) (o : Order) (c : ℕ) where
       wrong-unmarked Delta = refl
 
       by : (f d t g u s : Bool) → either {A = Kind} (cond f more wrong) (either (cond d more wrong) (cond t (cond g more (cond u more (cond s more wrong))) wrong)) ≡ wrong
-          → either (cond f (unmarked m (oneDigit 3 5 Speed ds)) wrong)
+          → either (cond f (unmarked m (speedMade e c ds)) wrong)
           (either (cond d (dimensioned e m ds) wrong)
-          (cond t (unmarked m (cond g (oneDigit 2 2 Plain ds) (cond u (oneDigit 1 9 Plain ds) (cond s (oneDigit 3 5 Speed ds) wrong)))) wrong))
+          (cond t (unmarked m (cond g (oneDigit 2 2 Plain ds) (cond u (oneDigit 1 9 Plain ds) (cond s (speedMade e c ds) wrong)))) wrong))
           ≡ wrong
       by true d t g u s q = absurd (more-not (either (cond d more wrong) (cond t (cond g more (cond u more (cond s more wrong))) wrong)) q)
       by false true t g u s q = absurd (more-not (cond t (cond g more (cond u more (cond s more wrong))) wrong) q)
@@ -298,7 +298,7 @@ module _ (e : Edition) (o : Order) (c : ℕ) where
     pub makes : read mark (lead ∷ digits) ≡ made k
 
   -- one digit: as a feed, or in its turn
-  shown-feed : (k : Kind) → T (feedDue o (itemOf k)) → Shown k
+  shown-feed : (k : Kind) → T (feedDue e o (itemOf k)) → Shown k
   shown-feed (Plain n) h = absurd (second l false (first (l && false) (dueAsFeed o c) h))
     where
       l : Bool
@@ -309,16 +309,16 @@ module _ (e : Edition) (o : Order) (c : ℕ) where
       l = eqb c 70 || eqb c 69 || eqb c 68
   shown-feed (Speed n) h =
       let l = eqb c 70 || eqb c 69 || eqb c 68 in
-      let s = first (l && digitIn 3 5 n) (dueAsFeed o c) h in
-      let fits = second l (digitIn 3 5 n) s in
-      let w = within 3 5 n fits in
+      let s = first (l && speedKind e c (Speed n)) (dueAsFeed o c) h in
+      let fits = second l (speedKind e c (Speed n)) s in
+      let w = speed-within e c n fits in
       record {
         mark = Unmarked;
         lead = n;
         digits = [];
         small = (omega arith, tt);
         spells = refl;
-        makes = rw (holds Feeds (both l (dueAsFeed o c) (first l (digitIn 3 5 n) s) (second (l && digitIn 3 5 n) (dueAsFeed o c) h)), holds (digitIn 3 5 n) fits);
+        makes = rw (holds Feeds (both l (dueAsFeed o c) (first l (speedKind e c (Speed n)) s) (second (l && speedKind e c (Speed n)) (dueAsFeed o c) h)), holds (speedKind e c (Speed n)) fits);
       }
 
   -- a dimension has two digits or three, which make no feed
@@ -361,7 +361,7 @@ module _ (e : Edition) (o : Order) (c : ℕ) where
       (figures-shown (d .mark) (d .missing) (d .before) (d .after) t (l .before) (l .after) (l .fits))
 
   -- one digit in its turn: the letter is none of a feed or a dimension
-  shown-digit : (n : ℕ) (k : ℕ → Kind) → ((d : ℕ) → spellKind (k d) ≡ digit d ∷ []) → n ≤ 9 → T (dueInTurn o c) → Feeds ≡ false → Measures ≡ false → turnMade c (n ∷ []) ≡ made (k n) → Shown (k n)
+  shown-digit : (n : ℕ) (k : ℕ → Kind) → ((d : ℕ) → spellKind (k d) ≡ digit d ∷ []) → n ≤ 9 → T (dueInTurn o c) → Feeds ≡ false → Measures ≡ false → turnMade e c (n ∷ []) ≡ made (k n) → Shown (k n)
   shown-digit n k spells small t f d q = record { mark = Unmarked; lead = n; digits = []; small = (small, tt); spells = spells n; makes = rw (f, d, holds (dueInTurn o c) t, q) }
 
   and-none : (b : Bool) → (b && false) ≡ false
@@ -369,43 +369,43 @@ module _ (e : Edition) (o : Order) (c : ℕ) where
   and-none false = refl
 
   -- a plain number of one digit, of a letter that is none of a feed or a dimension
-  shown-plain : (lo hi : ℕ) (k : Kind) → hi ≤ 9 → T (plainKind lo hi k) → T (dueInTurn o c) → Feeds ≡ false → Measures ≡ false → ((ds : List ℕ) → turnMade c ds ≡ oneDigit lo hi Plain ds) → Shown k
+  shown-plain : (lo hi : ℕ) (k : Kind) → hi ≤ 9 → T (plainKind lo hi k) → T (dueInTurn o c) → Feeds ≡ false → Measures ≡ false → ((ds : List ℕ) → turnMade e c ds ≡ oneDigit lo hi Plain ds) → Shown k
   shown-plain lo hi (Plain n) l h t f d q = let w = within lo hi n h in shown-digit n Plain (λ x. refl) (omega (arith, l, w .1)) t f d (q (n ∷ []) ∙ rw (holds (digitIn lo hi n) h))
   shown-plain lo hi (Speed n) l h t f d q = absurd h
   shown-plain lo hi (Dimension x) l h t f d q = absurd h
 
-  shown-speed : (k : Kind) → T (speedKind k) → T (dueInTurn o c) → Feeds ≡ false → Measures ≡ false → ((ds : List ℕ) → turnMade c ds ≡ oneDigit 3 5 Speed ds) → Shown k
+  shown-speed : (k : Kind) → T (speedKind e c k) → T (dueInTurn o c) → Feeds ≡ false → Measures ≡ false → ((ds : List ℕ) → turnMade e c ds ≡ speedMade e c ds) → Shown k
   shown-speed (Plain n) h t f d q = absurd h
-  shown-speed (Speed n) h t f d q = let w = within 3 5 n h in shown-digit n Speed (λ x. refl) (omega (arith, w .1)) t f d (q (n ∷ []) ∙ rw (holds (digitIn 3 5 n) h))
+  shown-speed (Speed n) h t f d q = let w = speed-within e c n h in shown-digit n Speed (λ x. refl) (omega (arith, w .1)) t f d (q (n ∷ []) ∙ rw (holds (speedKind e c (Speed n)) h))
   shown-speed (Dimension x) h t f d q = absurd h
 
-  shown-turn : (k : Kind) → T (turnDue o (itemOf k)) → Shown k
+  shown-turn : (k : Kind) → T (turnDue e o (itemOf k)) → Shown k
   shown-turn k h =
       let it = itemOf k in
-      let t = second (isG it || isS it || isT it || isM it) (dueInTurn o c) h in
+      let t = second (isG it || isS e it || isT it || isM it) (dueInTurn o c) h in
       ⊎-elim
       (λ p. ⊎-elim (λ q. ⊎-elim (λ g. let e71 = eqb→eq c 71 (first (eqb c 71) (plainKind 2 2 k) g) in
       shown-plain 2 2 k (omega arith) (second (eqb c 71) (plainKind 2 2 k) g) t (rw e71) (rw e71 (and-none (allowed e 71))) (λ ds. rw e71))
-      (λ g. let e83 = eqb→eq c 83 (first (eqb c 83) (speedKind k) g) in
-      shown-speed k (second (eqb c 83) (speedKind k) g) t (rw e83) (rw e83 (and-none (allowed e 83))) (λ ds. rw e83))
-      (split (isG it) (isS it) q))
+      (λ g. let e83 = eqb→eq c 83 (first (eqb c 83) (speedKind e c k) g) in
+      shown-speed k (second (eqb c 83) (speedKind e c k) g) t (rw e83) (rw e83 (and-none (allowed e 83))) (λ ds. rw e83))
+      (split (isG it) (isS e it) q))
       (λ g. let e84 = eqb→eq c 84 (first (eqb c 84) (plainKind 1 9 k) g) in
       shown-plain 1 9 k (omega arith) (second (eqb c 84) (plainKind 1 9 k) g) t (rw e84) (rw e84 (and-none (allowed e 84))) (λ ds. rw e84))
-      (split (isG it || isS it) (isT it) p))
+      (split (isG it || isS e it) (isT it) p))
       (λ g. let e77 = eqb→eq c 77 (first (eqb c 77) (plainKind 2 2 k) g) in
       shown-plain 2 2 k (omega arith) (second (eqb c 77) (plainKind 2 2 k) g) t (rw e77) (rw e77 (and-none (allowed e 77))) (λ ds. rw e77))
-      (split (isG it || isS it || isT it) (isM it) (first (isG it || isS it || isT it || isM it) (dueInTurn o c) h))
+      (split (isG it || isS e it || isT it) (isM it) (first (isG it || isS e it || isT it || isM it) (dueInTurn o c) h))
 
   pub kind-shown : (k : Kind) → T (due e o (itemOf k)) → Shown k
   unfolding due
   kind-shown k h =
       let it = itemOf k in
-      ⊎-elim (λ p. ⊎-elim (shown-feed k) (shown-dimension k) (split (feedDue o it) (dimensionDue e o it) p)) (shown-turn k) (split (feedDue o it || dimensionDue e o it) (turnDue o it) h)
+      ⊎-elim (λ p. ⊎-elim (shown-feed k) (shown-dimension k) (split (feedDue e o it) (dimensionDue e o it) p)) (shown-turn k) (split (feedDue e o it || dimensionDue e o it) (turnDue e o it) h)
 
 -- M2 comes wherever anything may, and behind it nothing
 module _ (e : Edition) (o : Order) where
   pub m-due : T (anyDue o) → T (due e o (itemOf e o 77 (Plain 2)))
-  m-due h = turn-due e o 77 (Plain 2) h (turn-any (itemOf e o 77 (Plain 2)) function tt)
+  m-due h = turn-due e o 77 (Plain 2) h (turn-any e (itemOf e o 77 (Plain 2)) function tt)
 
   pub none-due : T (not (anyDue o)) → (c : ℕ) (m : Mark) (ds : List ℕ) → read e o c m ds ≡ wrong
   none-due h c m ds =

@@ -22,10 +22,10 @@ use Rattle.shorthand.specs.declared.Mark.{Mark}
 use Rattle.shorthand.specs.declared.Mark.the-variants.{Unmarked, Plus, Delta}
 use Rattle.shorthand.specs.declared.Digits.{Digits}
 use Rattle.shorthand.specs.declared.Digits.the-variants.{Empty, One, Two, Three, Many}
-use Rattle.shorthand.specs.Edition.{later, allowed, anyOf}
-use Rattle.shorthand.specs.Lawful.{digitIn, speedKind, axes}
-use Rattle.shorthand.specs.Order.{dueAsFeed, dueAsDimension, dueInTurn, isAxis}
-use Rattle.shorthand.specs.Stand.{Pieces, Made, made, more, wrong, oneDigit, twoDigits, dimensioned, unmarked, either, asDimension, turnMade, inTurn, kindMade}
+use Rattle.shorthand.specs.Edition.{later, speedLeast, allowed, anyOf}
+use Rattle.shorthand.specs.Lawful.{digitIn, axes}
+use Rattle.shorthand.specs.Order.{dueAsFeed, dueAsDimension, dueInTurn, isSpeed, isAxis}
+use Rattle.shorthand.specs.Stand.{Pieces, Made, made, more, wrong, oneDigit, twoDigits, dimensioned, unmarked, either, asDimension, speedMade, turnMade, inTurn, kindMade}
 use Rattle.shorthand.specs.Places.{digitsIn, addedAll, making as madeBy}
 
 -- ---- the first three digits are enough
@@ -95,25 +95,25 @@ unless-right e m (Making.Dimension z a b) y h = refl
 unless-right e m Making.More y h = refl
 unless-right e m Making.Wrong y h = absurd (⊎-elim (λ t. omega arith) (λ r. ⊎-elim (λ t. omega arith) (λ s. ⊎-elim (λ t. omega arith) (λ t. omega arith) s) r) h)
 
-abbrev feed : Bool → Mark → List ℕ → Made Kind
-feed due m ds = cond due (unmarked m (oneDigit 3 5 Speed ds)) wrong
+abbrev feed : ℕ → Bool → Mark → List ℕ → Made Kind
+feed lo due m ds = cond due (unmarked m (oneDigit lo 5 Speed ds)) wrong
 
 -- of no digits a feed wants more and a dimension makes nothing; of any a feed wants no more
-feed-else : (e : Edition) (due b : Bool) (m : Mark) (ds : List ℕ) → either (feed due m ds) (cond b (dimensioned e m ds) wrong) ≡ unless (feed due m ds) (cond b (dimensioned e m ds) wrong)
-feed-else e false b m ds = refl
-feed-else e true b Plus ds = refl
-feed-else e true b Delta ds = refl
-feed-else e true true Unmarked [] = refl
-feed-else e true false Unmarked [] = refl
-feed-else e true b Unmarked (d ∷ []) = go (digitIn 3 5 d)
+feed-else : (e : Edition) (lo : ℕ) (due b : Bool) (m : Mark) (ds : List ℕ) → either (feed lo due m ds) (cond b (dimensioned e m ds) wrong) ≡ unless (feed lo due m ds) (cond b (dimensioned e m ds) wrong)
+feed-else e lo false b m ds = refl
+feed-else e lo true b Plus ds = refl
+feed-else e lo true b Delta ds = refl
+feed-else e lo true true Unmarked [] = refl
+feed-else e lo true false Unmarked [] = refl
+feed-else e lo true b Unmarked (d ∷ []) = go (digitIn lo 5 d)
   where
     go : (x : Bool) → either (cond x (made (Speed d)) wrong) (cond b more wrong) ≡ unless (cond x (made (Speed d)) wrong) (cond b more wrong)
     go true = refl
     go false = refl
-feed-else e true b Unmarked (d ∷ (x ∷ ds)) = refl
+feed-else e lo true b Unmarked (d ∷ (x ∷ ds)) = refl
 
-no-turn : (o : Order) (p : Pieces) → turnMade (p .letter) (p .digits) ≡ wrong → inTurn o p ≡ wrong
-no-turn o p h = rw h (go (dueInTurn o (p .letter)) (p .mark))
+no-turn : (e : Edition) (o : Order) (p : Pieces) → turnMade e (p .letter) (p .digits) ≡ wrong → inTurn e o p ≡ wrong
+no-turn e o p h = rw h (go (dueInTurn o (p .letter)) (p .mark))
   where
     go : (b : Bool) (m : Mark) → _≡_ {A = Made Kind} (cond b (unmarked m wrong) wrong) wrong
     go true Unmarked = refl
@@ -123,17 +123,17 @@ no-turn o p h = rw h (go (dueInTurn o (p .letter)) (p .mark))
 
 module _ (e : Edition) (o : Order) (p : Pieces) where
   -- a letter that is neither a feed's nor a dimension's
-  pub kind-in-turn : eqb (p .letter) 70 || eqb (p .letter) 69 || eqb (p .letter) 68 ≡ false → anyOf (λ d. eqb d (p .letter)) axes ≡ false → kindMade e o p ≡ inTurn o p
+  pub kind-in-turn : eqb (p .letter) 70 || eqb (p .letter) 69 || eqb (p .letter) 68 ≡ false → anyOf (λ d. eqb d (p .letter)) axes ≡ false → kindMade e o p ≡ inTurn e o p
   kind-in-turn f a = rw (f, a, and-false)
 
   -- F, E or D
-  pub kind-feed : eqb (p .letter) 70 || eqb (p .letter) 69 || eqb (p .letter) 68 ≡ true → turnMade (p .letter) (p .digits) ≡ wrong
-      → kindMade e o p ≡ unless (feed (dueAsFeed o (p .letter)) (p .mark) (p .digits)) (asDimension e o p)
-  kind-feed f t = rw (f, no-turn o p t, either-wrong) (feed-else e (dueAsFeed o (p .letter)) (allowed e (p .letter) && dueAsDimension o (p .letter)) (p .mark) (p .digits))
+  pub kind-feed : eqb (p .letter) 70 || eqb (p .letter) 69 || eqb (p .letter) 68 ≡ true → turnMade e (p .letter) (p .digits) ≡ wrong
+      → kindMade e o p ≡ unless (feed (speedLeast e (p .letter)) (dueAsFeed o (p .letter)) (p .mark) (p .digits)) (asDimension e o p)
+  kind-feed f t = rw (f, no-turn e o p t, either-wrong) (feed-else e (speedLeast e (p .letter)) (dueAsFeed o (p .letter)) (allowed e (p .letter) && dueAsDimension o (p .letter)) (p .mark) (p .digits))
 
   -- any other letter
-  pub kind-dimension : eqb (p .letter) 70 || eqb (p .letter) 69 || eqb (p .letter) 68 ≡ false → turnMade (p .letter) (p .digits) ≡ wrong → kindMade e o p ≡ asDimension e o p
-  kind-dimension f t = rw (f, no-turn o p t, either-wrong)
+  pub kind-dimension : eqb (p .letter) 70 || eqb (p .letter) 69 || eqb (p .letter) 68 ≡ false → turnMade e (p .letter) (p .digits) ≡ wrong → kindMade e o p ≡ asDimension e o p
+  kind-dimension f t = rw (f, no-turn e o p t, either-wrong)
 
   abbrev turning : Made Kind → Made Kind
   turning x = cond (dueInTurn o (p .letter)) (unmarked (p .mark) x) wrong
@@ -144,15 +144,15 @@ module _ (e : Edition) (o : Order) (p : Pieces) where
   pub kind-tool : p .letter ≡ 84 → kindMade e o p ≡ turning (oneDigit 1 9 Plain (p .digits))
   kind-tool l = kind-in-turn (rw l) (rw l) ∙ rw l
 
-  pub kind-speed : p .letter ≡ 83 → kindMade e o p ≡ turning (oneDigit 3 5 Speed (p .digits))
+  pub kind-speed : p .letter ≡ 83 → kindMade e o p ≡ turning (speedMade e (p .letter) (p .digits))
   kind-speed l = kind-in-turn (rw l) (rw l) ∙ rw l
 
-pub turn-none : {c : ℕ} (ds : List ℕ) → ((c ≡ 71) ⊎ (c ≡ 77) → ⊥) → (c ≡ 84 → ⊥) → (c ≡ 83 → ⊥) → turnMade c ds ≡ wrong
-turn-none {c} ds p q r = rw (ne-eqb c 71 (λ e. p (inl e)), ne-eqb c 77 (λ e. p (inr e)), ne-eqb c 84 q, ne-eqb c 83 r)
+pub turn-none : (e : Edition) {c : ℕ} (ds : List ℕ) → ((c ≡ 71) ⊎ (c ≡ 77) → ⊥) → (c ≡ 84 → ⊥) → (c ≡ 83 → ⊥) → turnMade e c ds ≡ wrong
+turn-none e {c} ds p q r = rw (ne-eqb c 71 (λ h. p (inl h)), ne-eqb c 77 (λ h. p (inr h)), ne-eqb c 84 q, ne-eqb c 83 r)
 
 -- ---- what an item's kind says
 
-pub no-speed : (k : Kind) → OneOf (0 ∷ 2 ∷ []) (tagOf kind.the-type k) → speedKind k ≡ false
+pub no-speed : (k : Kind) → OneOf (0 ∷ 2 ∷ []) (tagOf kind.the-type k) → isSpeed k ≡ false
 no-speed (Plain n) h = refl
 no-speed (Speed n) h = absurd (⊎-elim (λ e. omega arith) (λ e. omega arith) h)
 no-speed (Dimension d) h = refl

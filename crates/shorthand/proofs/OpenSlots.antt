@@ -71,7 +71,7 @@ no-items (s ∷ ss) = left (no-items ss)
 -- a row, and right behind a dimension with a feed of its own in front of it or none
 pub data Opening (e : Edition) : Bool → List Slot → List Item → Type 0 where
   plain : {b : Bool} {ss : List Slot} {its : List Item} → Row e ss its → Opening e b ss its
-  own : {ss : List Slot} {it : Item} {its : List Item} → T (isOwnFeed it) → Row e ss its → Opening e true ss (it ∷ its)
+  own : {ss : List Slot} {it : Item} {its : List Item} → T (isOwnFeed e it) → Row e ss its → Opening e true ss (it ∷ its)
 
 -- the slots that are open to the walk
 abbrev pub ahead : Order → List Slot
@@ -87,11 +87,11 @@ module _ {e : Edition} where
 
   module _ (o : Order) (it : Item) {its : List Item} where
     -- behind an own feed nothing is passed, any other ends the dimensions
-    feed-opens : T (isFeed it) → o .last ≤ feedRank → (b : Bool) → o .fresh && isOwnFeed it ≡ b
+    feed-opens : T (isFeed e it) → o .last ≤ feedRank → (b : Bool) → o .fresh && isOwnFeed e it ≡ b
         → Row e (drop (place (cond b (o .last) feedRank)) slots) its → Opening e (o .fresh) (ahead o) (it ∷ its)
     feed-opens h l true p r =
-        let t : T (o .fresh && isOwnFeed it) = rw p tt in
-        rw (holds (o .fresh) (first (o .fresh) (isOwnFeed it) t)) (own (second (o .fresh) (isOwnFeed it) t) r)
+        let t : T (o .fresh && isOwnFeed e it) = rw p tt in
+        rw (holds (o .fresh) (first (o .fresh) (isOwnFeed e it) t)) (own (second (o .fresh) (isOwnFeed e it) t) r)
     feed-opens h l false p r = plain (row-back (place (o .last)) 18 slots (place-feed (o .last) l) (feed h r))
 
     -- any other item fills its own slot
@@ -100,10 +100,10 @@ module _ {e : Edition} where
 
     pub role-opens : Role e o it → Opening e (after o it .fresh) (ahead (after o it)) its → Opening e (o .fresh) (ahead o) (it ∷ its)
     role-opens (as-feed h l u) r =
-        feed-opens h l (o .fresh && isOwnFeed it) refl (closed (rw (feed-fresh o it h, feed-last o it h) at r))
+        feed-opens h l (o .fresh && isOwnFeed e it) refl (closed (rw (feed-fresh o it e h, feed-last o it e h) at r))
     role-opens (as-dimension h m l u) r =
         slot-opens (rank (it .letter)) l
         (rw (axis-at (it .letter) m) (with-axis h (rw (dimension-fresh o it e (it .letter) h, dimension-last o it e (it .letter) h) at r)))
     role-opens (in-turn t h l) r =
-        slot-opens (rank (letterOf t)) (rw (turn-letter it t h) at l)
-        (rw (turn-at t) (turned h (closed (rw (turn-fresh o it t h, turn-last o it t h, turn-letter it t h) at r))))
+        slot-opens (rank (letterOf t)) (rw (turn-letter e it t h) at l)
+        (rw (turn-at t) (turned h (closed (rw (turn-fresh o it e t h, turn-last o it e t h, turn-letter e it t h) at r))))

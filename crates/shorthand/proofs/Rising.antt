@@ -70,10 +70,10 @@ module _ (e : Edition) (o : Order) (it : Item) (ss : List Slot) where
   abbrev pub Moves : List Slot → Type 0
   Moves ss = Role e o it × T (rising (after o it .last) ss)
 
-  pub turn-steps : (t : Turn) → T (testOf t it) → T (rising (o .last) (turn t ∷ ss)) → Moves ss
+  pub turn-steps : (t : Turn) → T (testOf e t it) → T (rising (o .last) (turn t ∷ ss)) → Moves ss
   turn-steps t h r = (
-    in-turn t h (rw (turn-letter it t h) (ltb→lt (o .last) (rank (letterOf t)) (first (fits (o .last) (turn t)) (rising (rank (letterOf t)) ss) r))),
-    rw (turn-last o it t h, turn-letter it t h) (second (fits (o .last) (turn t)) (rising (rank (letterOf t)) ss) r),
+    in-turn t h (rw (turn-letter e it t h) (ltb→lt (o .last) (rank (letterOf t)) (first (fits (o .last) (turn t)) (rising (rank (letterOf t)) ss) r))),
+    rw (turn-last o it e t h, turn-letter e it t h) (second (fits (o .last) (turn t)) (rising (rank (letterOf t)) ss) r),
   )
 
   abbrev d : ℕ
@@ -92,14 +92,14 @@ module _ (e : Edition) (o : Order) (it : Item) (ss : List Slot) where
       subst (λ (c : ℕ). T (isDimension e c it) → T (rising (o .last) (axis c ∷ ss)) → T (not (used o d)) → Moves ss × (after o it .last ≤ feedRank))
       (dimension-letter e c it h) letter-steps h
 
-  pub own-steps : T (isOwnFeed it) → o .fresh ≡ true → o .last ≤ feedRank → T (rising (o .last) ss) → T (not (used o d)) → Moves ss
-  own-steps h f l r u = (as-feed (own-is-feed it h) l u, rw (feed-last o it (own-is-feed it h), f, holds (isOwnFeed it) h) r)
+  pub own-steps : T (isOwnFeed e it) → o .fresh ≡ true → o .last ≤ feedRank → T (rising (o .last) ss) → T (not (used o d)) → Moves ss
+  own-steps h f l r u = (as-feed (own-is-feed e it h) l u, rw (feed-last o it e (own-is-feed e it h), f, holds (isOwnFeed e it) h) r)
 
-  pub feed-steps : T (isFeed it) → T (rising (o .last) (feeds ∷ ss)) → T (not (used o d)) → Moves (feeds ∷ ss)
+  pub feed-steps : T (isFeed e it) → T (rising (o .last) (feeds ∷ ss)) → T (not (used o d)) → Moves (feeds ∷ ss)
   feed-steps h r u =
       let l = leb→le (o .last) feedRank (first (leb (o .last) feedRank) (rising feedRank ss) r) in (
         as-feed h l u,
-        both (leb (after o it .last) feedRank) (rising feedRank ss) (le→leb (after o it .last) feedRank (feed-most o it h l)) (second (leb (o .last) feedRank) (rising feedRank ss) r),
+        both (leb (after o it .last) feedRank) (rising feedRank ss) (le→leb (after o it .last) feedRank (feed-most o it e h l)) (second (leb (o .last) feedRank) (rising feedRank ss) r),
       )
 
 -- ---- letters that may come

@@ -25,36 +25,36 @@ letterOf speed = 83
 letterOf tool = 84
 letterOf function = 77
 
-abbrev pub testOf : Turn → Item → Bool
-testOf general = isG
-testOf speed = isS
-testOf tool = isT
-testOf function = isM
+abbrev pub testOf : Edition → Turn → Item → Bool
+testOf e general = isG
+testOf e speed = isS e
+testOf e tool = isT
+testOf e function = isM
 
-module _ (it : Item) where
-  pub turn-letter : (t : Turn) → T (testOf t it) → it .letter ≡ letterOf t
+module _ (e : Edition) (it : Item) where
+  pub turn-letter : (t : Turn) → T (testOf e t it) → it .letter ≡ letterOf t
   turn-letter general h = eqb→eq (it .letter) 71 (first (eqb (it .letter) 71) (plainKind 2 2 (it .kind)) h)
-  turn-letter speed h = eqb→eq (it .letter) 83 (first (eqb (it .letter) 83) (speedKind (it .kind)) h)
+  turn-letter speed h = eqb→eq (it .letter) 83 (first (eqb (it .letter) 83) (speedKind e (it .letter) (it .kind)) h)
   turn-letter tool h = eqb→eq (it .letter) 84 (first (eqb (it .letter) 84) (plainKind 1 9 (it .kind)) h)
   turn-letter function h = eqb→eq (it .letter) 77 (first (eqb (it .letter) 77) (plainKind 2 2 (it .kind)) h)
 
-  pub turn-any : (t : Turn) → T (testOf t it) → T (isG it || isS it || isT it || isM it)
-  turn-any general h = left (isG it || isS it || isT it) (isM it) (left (isG it || isS it) (isT it) (left (isG it) (isS it) h))
-  turn-any speed h = left (isG it || isS it || isT it) (isM it) (left (isG it || isS it) (isT it) (right (isG it) (isS it) h))
-  turn-any tool h = left (isG it || isS it || isT it) (isM it) (right (isG it || isS it) (isT it) h)
-  turn-any function h = right (isG it || isS it || isT it) (isM it) h
+  pub turn-any : (t : Turn) → T (testOf e t it) → T (isG it || isS e it || isT it || isM it)
+  turn-any general h = left (isG it || isS e it || isT it) (isM it) (left (isG it || isS e it) (isT it) (left (isG it) (isS e it) h))
+  turn-any speed h = left (isG it || isS e it || isT it) (isM it) (left (isG it || isS e it) (isT it) (right (isG it) (isS e it) h))
+  turn-any tool h = left (isG it || isS e it || isT it) (isM it) (right (isG it || isS e it) (isT it) h)
+  turn-any function h = right (isG it || isS e it || isT it) (isM it) h
 
-  any-turn : T (isG it || isS it || isT it || isM it) → (t : Turn) × T (testOf t it)
-  any-turn h = go (isG it) (isS it) (isT it) refl refl refl h
+  any-turn : T (isG it || isS e it || isT it || isM it) → (t : Turn) × T (testOf e t it)
+  any-turn h = go (isG it) (isS e it) (isT it) refl refl refl h
     where
-      go : (g s t : Bool) → isG it ≡ g → isS it ≡ s → isT it ≡ t → T (g || s || t || isM it) → (t : Turn) × T (testOf t it)
+      go : (g s t : Bool) → isG it ≡ g → isS e it ≡ s → isT it ≡ t → T (g || s || t || isM it) → (t : Turn) × T (testOf e t it)
       go true s t p q r h = (general, rw p tt)
       go false true t p q r h = (speed, rw q tt)
       go false false true p q r h = (tool, rw r tt)
       go false false false p q r h = (function, h)
 
   -- a test that G, S, T and M pass
-  pub turn-is : (g : ℕ → Bool) → T (allOf g (71 ∷ 83 ∷ 84 ∷ 77 ∷ [])) → (t : Turn) → T (testOf t it) → T (g (it .letter))
+  pub turn-is : (g : ℕ → Bool) → T (allOf g (71 ∷ 83 ∷ 84 ∷ 77 ∷ [])) → (t : Turn) → T (testOf e t it) → T (g (it .letter))
   turn-is g a t h = rw (turn-letter t h) (among-is g (71 ∷ 83 ∷ 84 ∷ 77 ∷ []) a (letterOf t) (listed t))
     where
       listed : (t : Turn) → T (among (71 ∷ 83 ∷ 84 ∷ 77 ∷ []) (letterOf t))
@@ -81,15 +81,15 @@ feeding-is g a c h = go (eqb c 70) (eqb c 69) refl refl h
     go false true p q h = at 69 tt (rw q tt)
     go false false p q h = at 68 tt h
 
-module _ (it : Item) where
-  pub feed-letter : T (isFeed it) → T (feeding (it .letter))
-  feed-letter h = first (feeding (it .letter)) (speedKind (it .kind)) h
+module _ (e : Edition) (it : Item) where
+  pub feed-letter : T (isFeed e it) → T (feeding (it .letter))
+  feed-letter h = first (feeding (it .letter)) (speedKind e (it .letter) (it .kind)) h
 
-  pub own-is-feed : T (isOwnFeed it) → T (isFeed it)
+  pub own-is-feed : T (isOwnFeed e it) → T (isFeed e it)
   own-is-feed h =
-      both (feeding (it .letter)) (speedKind (it .kind))
-      (go (eqb (it .letter) 70) (eqb (it .letter) 69) (first (eqb (it .letter) 69 || eqb (it .letter) 68) (speedKind (it .kind)) h))
-      (second (eqb (it .letter) 69 || eqb (it .letter) 68) (speedKind (it .kind)) h)
+      both (feeding (it .letter)) (speedKind e (it .letter) (it .kind))
+      (go (eqb (it .letter) 70) (eqb (it .letter) 69) (first (eqb (it .letter) 69 || eqb (it .letter) 68) (speedKind e (it .letter) (it .kind)) h))
+      (second (eqb (it .letter) 69 || eqb (it .letter) 68) (speedKind e (it .letter) (it .kind)) h)
     where
       go : (f s : Bool) → T (s || eqb (it .letter) 68) → T (f || s || eqb (it .letter) 68)
       go true s h = tt
@@ -108,27 +108,27 @@ module _ (e : Edition) (c : ℕ) (it : Item) (h : T (isDimension e c it)) where
 -- ---- the roles
 
 pub data Role (e : Edition) (o : Order) (it : Item) : Type 0 where
-  as-feed : T (isFeed it) → o .last ≤ feedRank → T (not (used o (it .letter))) → Role e o it
+  as-feed : T (isFeed e it) → o .last ≤ feedRank → T (not (used o (it .letter))) → Role e o it
   as-dimension : T (isDimension e (it .letter) it) → T (among axes (it .letter)) → o .last < rank (it .letter) → T (not (used o (it .letter))) → Role e o it
-  in-turn : (t : Turn) → T (testOf t it) → o .last < rank (it .letter) → Role e o it
+  in-turn : (t : Turn) → T (testOf e t it) → o .last < rank (it .letter) → Role e o it
 
 module _ (e : Edition) (o : Order) (it : Item) where
   abbrev c : ℕ
   c = it .letter
 
   abbrev feed : Bool
-  feed = isFeed it && dueAsFeed o c
+  feed = isFeed e it && dueAsFeed o c
 
   abbrev dimension : Bool
   dimension = allowed e c && dimensionKind e (it .kind) && dueAsDimension o c
 
   abbrev turn : Bool
-  turn = (isG it || isS it || isT it || isM it) && dueInTurn o c
+  turn = (isG it || isS e it || isT it || isM it) && dueInTurn o c
 
   feed-role : T feed → Role e o it
   feed-role h =
-      let d = second (isFeed it) (dueAsFeed o c) h in
-      as-feed (first (isFeed it) (dueAsFeed o c) h) (leb→le (o .last) feedRank (first (leb (o .last) feedRank) (not (used o c)) d))
+      let d = second (isFeed e it) (dueAsFeed o c) h in
+      as-feed (first (isFeed e it) (dueAsFeed o c) h) (leb→le (o .last) feedRank (first (leb (o .last) feedRank) (not (used o c)) d))
       (second (leb (o .last) feedRank) (not (used o c)) d)
 
   dimension-role : T dimension → Role e o it
@@ -145,8 +145,8 @@ module _ (e : Edition) (o : Order) (it : Item) where
 
   turn-role : T turn → Role e o it
   turn-role h =
-      let t = any-turn it (first (isG it || isS it || isT it || isM it) (dueInTurn o c) h) in
-      in-turn (t .0) (t .1) (ltb→lt (o .last) (rank c) (second (isG it || isS it || isT it || isM it) (dueInTurn o c) h))
+      let t = any-turn e it (first (isG it || isS e it || isT it || isM it) (dueInTurn o c) h) in
+      in-turn (t .0) (t .1) (ltb→lt (o .last) (rank c) (second (isG it || isS e it || isT it || isM it) (dueInTurn o c) h))
 
   pub role-of : T (due e o it) → Role e o it
   unfolding due
@@ -157,11 +157,11 @@ module _ (e : Edition) (o : Order) (it : Item) where
   unfolding due
   role-due (as-feed h l u) =
       left (feed || dimension) turn (left feed dimension
-      (both (isFeed it) (dueAsFeed o c) h (both (leb (o .last) feedRank) (not (used o c)) (le→leb (o .last) feedRank l) u)))
+      (both (isFeed e it) (dueAsFeed o c) h (both (leb (o .last) feedRank) (not (used o c)) (le→leb (o .last) feedRank l) u)))
   role-due (as-dimension h m l u) =
       left (feed || dimension) turn (right feed dimension
       (both (allowed e c && dimensionKind e (it .kind)) (dueAsDimension o c)
       (both (allowed e c) (dimensionKind e (it .kind)) (dimension-allowed e c it h) (dimension-kind e c it h))
       (both (among axes c && ltb (o .last) (rank c)) (not (used o c)) (both (among axes c) (ltb (o .last) (rank c)) m (lt→ltb (o .last) (rank c) l)) u)))
   role-due (in-turn t h l) =
-      right (feed || dimension) turn (both (isG it || isS it || isT it || isM it) (dueInTurn o c) (turn-any it t h) (lt→ltb (o .last) (rank c) l))
+      right (feed || dimension) turn (both (isG it || isS e it || isT it || isM it) (dueInTurn o c) (turn-any e it t h) (lt→ltb (o .last) (rank c) l))

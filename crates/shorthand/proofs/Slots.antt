@@ -21,15 +21,15 @@ slots = map turn (general ∷ []) ++ (map axis axes ++ (feeds ∷ map turn (spee
 pub data Row (e : Edition) : List Slot → List Item → Type 0 where
   none : Row e [] []
   left : {s : Slot} {ss : List Slot} {its : List Item} → Row e ss its → Row e (s ∷ ss) its
-  turned : {t : Turn} {ss : List Slot} {it : Item} {its : List Item} → T (testOf t it) → Row e ss its → Row e (turn t ∷ ss) (it ∷ its)
+  turned : {t : Turn} {ss : List Slot} {it : Item} {its : List Item} → T (testOf e t it) → Row e ss its → Row e (turn t ∷ ss) (it ∷ its)
   axed : {c : ℕ} {ss : List Slot} {it : Item} {its : List Item} → T (isDimension e c it) → Row e ss its → Row e (axis c ∷ ss) (it ∷ its)
-  fed : {c : ℕ} {ss : List Slot} {it own : Item} {its : List Item} → T (isDimension e c it) → T (isOwnFeed own) → Row e ss its → Row e (axis c ∷ ss) (it ∷ own ∷ its)
-  feed : {ss : List Slot} {it : Item} {its : List Item} → T (isFeed it) → Row e (feeds ∷ ss) its → Row e (feeds ∷ ss) (it ∷ its)
+  fed : {c : ℕ} {ss : List Slot} {it own : Item} {its : List Item} → T (isDimension e c it) → T (isOwnFeed e own) → Row e ss its → Row e (axis c ∷ ss) (it ∷ own ∷ its)
+  feed : {ss : List Slot} {it : Item} {its : List Item} → T (isFeed e it) → Row e (feeds ∷ ss) its → Row e (feeds ∷ ss) (it ∷ its)
 
 -- ---- a row from its parts
 
 module _ {e : Edition} {ss : List Slot} {rest : List Item} (r : Row e ss rest) where
-  pub turns-row : (ts : List Turn) {its : List Item} → InTurn (map testOf ts) its → Row e (map turn ts ++ ss) (its ++ rest)
+  pub turns-row : (ts : List Turn) {its : List Item} → InTurn (map (testOf e) ts) its → Row e (map turn ts ++ ss) (its ++ rest)
   turns-row [] InTurn.none = r
   turns-row (t ∷ ts) (InTurn.left a) = left (turns-row ts a)
   turns-row (t ∷ ts) (InTurn.next h a) = turned h (turns-row ts a)
@@ -40,7 +40,7 @@ module _ {e : Edition} {ss : List Slot} {rest : List Item} (r : Row e ss rest) w
   axes-row (Axes.axis h a) = axed h (axes-row a)
   axes-row (Axes.fed h o a) = fed h o (axes-row a)
 
-  pub feeds-row : (its : List Item) → Every (λ it. T (isFeed it)) its → Row e (feeds ∷ ss) (its ++ rest)
+  pub feeds-row : (its : List Item) → Every (λ it. T (isFeed e it)) its → Row e (feeds ∷ ss) (its ++ rest)
   feeds-row [] a = left r
   feeds-row (it ∷ its) a = feed (a .0) (feeds-row its (a .1))
 
@@ -67,7 +67,7 @@ module _ {P Q : List Item → Type 0} where
   all-behind {its} p q = record { front = []; back = its; joined = refl; begins = p; ends = q }
 
 module _ {e : Edition} where
-  pub row-turns : (ts : List Turn) {ss : List Slot} {its : List Item} → Row e (map turn ts ++ ss) its → Parts (InTurn (map testOf ts)) (Row e ss) its
+  pub row-turns : (ts : List Turn) {ss : List Slot} {its : List Item} → Row e (map turn ts ++ ss) its → Parts (InTurn (map (testOf e) ts)) (Row e ss) its
   row-turns [] r = all-behind InTurn.none r
   row-turns (t ∷ ts) (left r) = same (λ xs a. InTurn.left a) (row-turns ts r)
   row-turns (t ∷ ts) (turned h r) = longer (λ xs a. InTurn.next h a) (row-turns ts r)
@@ -79,7 +79,7 @@ module _ {e : Edition} where
   row-axes (c ∷ cs) (fed {it = it} h o r) =
       longer (λ xs a. a) (longer {P′ = λ xs. Axes e (c ∷ cs) (it ∷ xs)} (λ xs a. Axes.fed h o a) (row-axes cs r))
 
-  pub row-feeds : {ss : List Slot} {its : List Item} → Row e (feeds ∷ ss) its → Parts (Every (λ it. T (isFeed it))) (Row e ss) its
+  pub row-feeds : {ss : List Slot} {its : List Item} → Row e (feeds ∷ ss) its → Parts (Every (λ it. T (isFeed e it))) (Row e ss) its
   row-feeds (left r) = all-behind tt r
   row-feeds (feed h r) = longer (λ xs a. (h, a)) (row-feeds r)
 

@@ -1,6 +1,6 @@
 -- The two editions, the letters of items, and what one edition alone allows (document 01, "The shorthand").
 use Prim.Native.Nat.{ℕ}
-use mathlib.Core.Bool.{Bool, true, false, _||_, not, cond}
+use mathlib.Core.Bool.{Bool, true, false, _&&_, _||_, not, cond}
 use mathlib.Core.List.{List, [], _∷_}
 use lib.Dec.{eqb}
 use Rattle.shorthand.specs.declared.Edition.{Edition}
@@ -11,7 +11,7 @@ abbrev pub numberOf : Edition → ℕ
 numberOf Iso1057 = 1057
 numberOf Iso2539 = 2539
 
--- what only 2539 has: N4 to N9, items without dots, I J K, three digits, a missing sign that means plus
+-- what only 2539 has: N4 to N9, items without dots, I J K, three digits, a missing sign that means plus, F2 and S2
 abbrev pub later : Edition → Bool
 later Iso1057 = false
 later Iso2539 = true
@@ -19,6 +19,13 @@ later Iso2539 = true
 -- N has one digit: 3 in 1057, 3 to 9 in 2539
 abbrev pub sequenceMost : Edition → ℕ
 sequenceMost e = cond (later e) 9 3
+
+-- a coded speed has one digit: 3, 4 or 5; of F and S in 2539 also 2 (document 02, 4/12)
+abbrev pub speedLeast : Edition → ℕ → ℕ
+speedLeast e c = cond (later e && (eqb c 70 || eqb c 83)) 2 3
+
+abbrev pub speedMost : ℕ
+speedMost = 5
 
 -- the letters of the items in their order: G; X Y Z U V W P Q R; I J K; A B C D E; F; S; T; M
 abbrev pub letters : List ℕ

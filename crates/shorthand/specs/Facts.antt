@@ -11,10 +11,10 @@ use Rattle.shorthand.specs.declared.Format.{Format}
 use Rattle.shorthand.specs.Layout.{itemsOf, formatOf, addressed}
 use Rattle.shorthand.specs.Edition.{letters, anyOf}
 
--- 1 to 9 digits of a plain word, 3 to 5 of a speed, 1 to 18 of a dimension
+-- 1 to 9 digits of a plain word, 2 to 5 of a speed, 1 to 18 of a dimension
 abbrev pub Widths : Kind → Type 0
 Widths (Plain n) = (1 ≤ n) × (n ≤ 9)
-Widths (Speed n) = (3 ≤ n) × (n ≤ 5)
+Widths (Speed n) = (2 ≤ n) × (n ≤ 5)
 Widths (Dimension d) = (d .before ≤ 9) × (d .after ≤ 9) × (1 ≤ d .before + d .after)
 
 -- each item has one of the 22 letters and fit widths, and no letter stands twice

@@ -1,4 +1,4 @@
--- Which Formats an edition allows, as a relation (documents 01, "The shorthand", and 02, 1/12).
+-- Which Formats an edition allows, as a relation (documents 01, "The shorthand", and 02, 1/12 and 4/12).
 use Prim.Native.Nat.{ℕ}
 use mathlib.Core.Path.{_≡_}
 use mathlib.Core.Bool.{Bool, false, _&&_, _||_, not, Bool·beq}
@@ -13,7 +13,7 @@ use Rattle.shorthand.specs.declared.Item.{Item}
 use Rattle.shorthand.specs.declared.Format.{Format}
 use Rattle.shorthand.specs.declared.Edition.{Edition}
 use Rattle.shorthand.specs.Layout.{formatOf}
-use Rattle.shorthand.specs.Edition.{numberOf, later, sequenceMost, allowed, anyOf}
+use Rattle.shorthand.specs.Edition.{numberOf, later, sequenceMost, speedLeast, speedMost, allowed, anyOf}
 
 abbrev pub digitIn : ℕ → ℕ → ℕ → Bool
 digitIn lo hi d = leb lo d && leb d hi
@@ -25,11 +25,11 @@ plainKind lo hi (Plain n) = digitIn lo hi n
 plainKind lo hi (Speed n) = false
 plainKind lo hi (Dimension d) = false
 
--- a coded speed has 3, 4 or 5 digits
-abbrev pub speedKind : Kind → Bool
-speedKind (Plain n) = false
-speedKind (Speed n) = digitIn 3 5 n
-speedKind (Dimension d) = false
+-- the coded speed of a letter
+abbrev pub speedKind : Edition → ℕ → Kind → Bool
+speedKind e c (Plain n) = false
+speedKind e c (Speed n) = digitIn (speedLeast e c) speedMost n
+speedKind e c (Dimension d) = false
 
 -- two digits, not `00`; in 2539 also three: `0ab` with b not 0, `ab0` with a not 0
 abbrev pub figuresFit : Edition → Missing → ℕ → ℕ → Bool
@@ -47,8 +47,8 @@ dimensionKind e (Dimension d) =
 abbrev pub isG : Item → Bool
 isG it = eqb (it .letter) 71 && plainKind 2 2 (it .kind)
 
-abbrev pub isS : Item → Bool
-isS it = eqb (it .letter) 83 && speedKind (it .kind)
+abbrev pub isS : Edition → Item → Bool
+isS e it = eqb (it .letter) 83 && speedKind e (it .letter) (it .kind)
 
 abbrev pub isT : Item → Bool
 isT it = eqb (it .letter) 84 && plainKind 1 9 (it .kind)
@@ -57,12 +57,12 @@ abbrev pub isM : Item → Bool
 isM it = eqb (it .letter) 77 && plainKind 2 2 (it .kind)
 
 -- the first, second and third feed: F, E and D
-abbrev pub isFeed : Item → Bool
-isFeed it = (eqb (it .letter) 70 || eqb (it .letter) 69 || eqb (it .letter) 68) && speedKind (it .kind)
+abbrev pub isFeed : Edition → Item → Bool
+isFeed e it = (eqb (it .letter) 70 || eqb (it .letter) 69 || eqb (it .letter) 68) && speedKind e (it .letter) (it .kind)
 
 -- the second and third may stand behind their own axis
-abbrev pub isOwnFeed : Item → Bool
-isOwnFeed it = (eqb (it .letter) 69 || eqb (it .letter) 68) && speedKind (it .kind)
+abbrev pub isOwnFeed : Edition → Item → Bool
+isOwnFeed e it = (eqb (it .letter) 69 || eqb (it .letter) 68) && speedKind e (it .letter) (it .kind)
 
 -- the dimension of a letter
 abbrev pub isDimension : Edition → ℕ → Item → Bool
@@ -81,7 +81,7 @@ pub data Axes (e : Edition) : List ℕ → List Item → Type 0 where
   none : Axes e [] []
   left : {c : ℕ} {cs : List ℕ} {its : List Item} → Axes e cs its → Axes e (c ∷ cs) its
   axis : {c : ℕ} {cs : List ℕ} {it : Item} {its : List Item} → T (isDimension e c it) → Axes e cs its → Axes e (c ∷ cs) (it ∷ its)
-  fed : {c : ℕ} {cs : List ℕ} {it own : Item} {its : List Item} → T (isDimension e c it) → T (isOwnFeed own) → Axes e cs its → Axes e (c ∷ cs) (it ∷ own ∷ its)
+  fed : {c : ℕ} {cs : List ℕ} {it own : Item} {its : List Item} → T (isDimension e c it) → T (isOwnFeed e own) → Axes e cs its → Axes e (c ∷ cs) (it ∷ own ∷ its)
 
 -- X Y Z U V W P Q R, then I J K, then A B C D E
 abbrev pub axes : List ℕ
@@ -104,8 +104,8 @@ pub record Ordered (e : Edition) (its : List Item) : Type 0 where
   pub parts : its ≡ general ++ (dimensions ++ (feeds ++ others))
   pub first : InTurn (isG ∷ []) general
   pub second : Axes e axes dimensions
-  pub third : Every (λ it. T (isFeed it)) feeds
-  pub last : InTurn (isS ∷ isT ∷ isM ∷ []) others
+  pub third : Every (λ it. T (isFeed e it)) feeds
+  pub last : InTurn (isS e ∷ isT ∷ isM ∷ []) others
   pub once : Distinct (lettersOf its)
 
 -- 1057 requires the dots; where there is no item there are none

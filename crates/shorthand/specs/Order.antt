@@ -9,7 +9,7 @@ use Rattle.shorthand.specs.declared.Item.{Item}
 use Rattle.shorthand.specs.declared.Order.{Order}
 use Rattle.shorthand.specs.declared.Edition.{Edition}
 use Rattle.shorthand.specs.Edition.{letters, allowed, anyOf}
-use Rattle.shorthand.specs.Lawful.{isG, isS, isT, isM, isFeed, isOwnFeed, dimensionKind, axes}
+use Rattle.shorthand.specs.Lawful.{isG, isS, isT, isM, isFeed, dimensionKind, axes}
 
 -- the place of a letter in the order, from 1; 0 for anything else. E and D as feeds stand where F does
 abbrev pub placeIn : List ℕ → ℕ → ℕ → ℕ
@@ -44,26 +44,35 @@ abbrev pub dueAsFeed : Order → ℕ → Bool
 dueAsFeed o c = leb (o .last) feedRank && not (used o c)
 
 -- an item that may come: as a feed, as a dimension, or in its turn
-abbrev pub feedDue : Order → Item → Bool
-feedDue o it = isFeed it && dueAsFeed o (it .letter)
+abbrev pub feedDue : Edition → Order → Item → Bool
+feedDue e o it = isFeed e it && dueAsFeed o (it .letter)
 
 abbrev pub dimensionDue : Edition → Order → Item → Bool
 dimensionDue e o it = allowed e (it .letter) && dimensionKind e (it .kind) && dueAsDimension o (it .letter)
 
-abbrev pub turnDue : Order → Item → Bool
-turnDue o it = (isG it || isS it || isT it || isM it) && dueInTurn o (it .letter)
+abbrev pub turnDue : Edition → Order → Item → Bool
+turnDue e o it = (isG it || isS e it || isT it || isM it) && dueInTurn o (it .letter)
 
 unfoldable pub due : Edition → Order → Item → Bool
-due e o it = feedDue o it || dimensionDue e o it || turnDue o it
+due e o it = feedDue e o it || dimensionDue e o it || turnDue e o it
+
+abbrev pub isSpeed : Kind → Bool
+isSpeed (Plain n) = false
+isSpeed (Speed n) = true
+isSpeed (Dimension d) = false
 
 abbrev pub isAxis : Kind → Bool
 isAxis (Plain n) = false
 isAxis (Speed n) = false
 isAxis (Dimension d) = true
 
--- the rank that an item brings the walk to: right behind a dimension one of E and D leaves the dimensions open, any other feed ends them
+-- the rank that a speed of a letter brings the walk to: right behind a dimension one of E and D leaves the dimensions open, any other feed ends them
+abbrev pub speedReached : Order → ℕ → ℕ
+speedReached o c = cond (eqb c 69 || eqb c 68) (cond (o .fresh) (o .last) feedRank) (rank c)
+
+-- and that an item does
 abbrev pub reached : Order → Item → ℕ
-reached o it = cond (isFeed it) (cond (o .fresh && isOwnFeed it) (o .last) feedRank) (rank (it .letter))
+reached o it = cond (isSpeed (it .kind)) (speedReached o (it .letter)) (rank (it .letter))
 
 -- behind an item
 unfoldable pub after : Order → Item → Order

@@ -1,4 +1,4 @@
--- How an item stands at a place of the text: whole, or short and still to be mended by further bytes, or past mending (documents 01, "The shorthand", and 02, 1/12).
+-- How an item stands at a place of the text: whole, or short and still to be mended by further bytes, or past mending (documents 01, "The shorthand", and 02, 1/12 and 4/12).
 use Prim.Native.Nat.{ℕ, _-_}
 use mathlib.Core.Bool.{Bool, false, _&&_, _||_, not, cond}
 use mathlib.Core.List.{List, [], _∷_}
@@ -15,7 +15,7 @@ use Rattle.shorthand.specs.declared.Edition.{Edition}
 use Rattle.shorthand.specs.declared.Dots.{Dots}
 use Rattle.shorthand.specs.declared.Dots.the-variants.{Open, Dotted, Plainly}
 use Rattle.shorthand.specs.Spell.{starts, isDigit}
-use Rattle.shorthand.specs.Edition.{later, sequenceMost, allowed}
+use Rattle.shorthand.specs.Edition.{later, sequenceMost, speedLeast, speedMost, allowed}
 use Rattle.shorthand.specs.Lawful.{digitIn, figuresFit}
 use Rattle.shorthand.specs.Order.{dueAsFeed, dueAsDimension, dueInTurn, anyDue}
 
@@ -97,25 +97,29 @@ either more more = more
 either more wrong = more
 either wrong y = y
 
+-- the coded speed of a letter
+abbrev pub speedMade : Edition → ℕ → List ℕ → Made Kind
+speedMade e c ds = oneDigit (speedLeast e c) speedMost Speed ds
+
 -- F, E and D as feeds
-abbrev pub asFeed : Order → Pieces → Made Kind
-asFeed o p =
-    cond ((eqb (p .letter) 70 || eqb (p .letter) 69 || eqb (p .letter) 68) && dueAsFeed o (p .letter)) (unmarked (p .mark) (oneDigit 3 5 Speed (p .digits))) wrong
+abbrev pub asFeed : Edition → Order → Pieces → Made Kind
+asFeed e o p =
+    cond ((eqb (p .letter) 70 || eqb (p .letter) 69 || eqb (p .letter) 68) && dueAsFeed o (p .letter)) (unmarked (p .mark) (speedMade e (p .letter) (p .digits))) wrong
 
 abbrev pub asDimension : Edition → Order → Pieces → Made Kind
 asDimension e o p = cond (allowed e (p .letter) && dueAsDimension o (p .letter)) (dimensioned e (p .mark) (p .digits)) wrong
 
--- G2 and M2; T with 1 to 9; S with 3, 4 or 5
-abbrev pub turnMade : ℕ → List ℕ → Made Kind
-turnMade c ds =
-    cond (eqb c 71 || eqb c 77) (oneDigit 2 2 Plain ds) (cond (eqb c 84) (oneDigit 1 9 Plain ds) (cond (eqb c 83) (oneDigit 3 5 Speed ds) wrong))
+-- G2 and M2; T with 1 to 9; S
+abbrev pub turnMade : Edition → ℕ → List ℕ → Made Kind
+turnMade e c ds =
+    cond (eqb c 71 || eqb c 77) (oneDigit 2 2 Plain ds) (cond (eqb c 84) (oneDigit 1 9 Plain ds) (cond (eqb c 83) (speedMade e c ds) wrong))
 
-abbrev pub inTurn : Order → Pieces → Made Kind
-inTurn o p = cond (dueInTurn o (p .letter)) (unmarked (p .mark) (turnMade (p .letter) (p .digits))) wrong
+abbrev pub inTurn : Edition → Order → Pieces → Made Kind
+inTurn e o p = cond (dueInTurn o (p .letter)) (unmarked (p .mark) (turnMade e (p .letter) (p .digits))) wrong
 
 -- whether E or D is a feed or a dimension is settled by mark and digits
 abbrev pub kindMade : Edition → Order → Pieces → Made Kind
-kindMade e o p = either (asFeed o p) (either (asDimension e o p) (inTurn o p))
+kindMade e o p = either (asFeed e o p) (either (asDimension e o p) (inTurn e o p))
 
 -- ---- how an item stands
 

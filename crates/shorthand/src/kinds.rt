@@ -3,7 +3,7 @@ ghost use mathlib.Core.Path.{_≡_};
 ghost use Prim.Native.Nat.{ℕ};
 ghost use mathlib.Core.Bool.{_&&_, cond};
 ghost use mathlib.Core.List.{List};
-ghost use Rattle.shorthand.specs.Edition.{allowed};
+ghost use Rattle.shorthand.specs.Edition.{allowed, speedLeast};
 ghost use Rattle.shorthand.specs.Order.{dueAsDimension};
 ghost use Rattle.shorthand.specs.Stand.{wrong, oneDigit, unmarked, twoDigits, threeDigits, dimensioned, kindMade};
 ghost use Rattle.shorthand.specs.Places.{digitsIn, making, singly, piecesIn};
@@ -19,6 +19,19 @@ use crate::orders::due_as_dimension;
 use crate::orders::due_as_feed;
 use crate::orders::rank_of;
 use crate::pieces::is_within;
+
+// A coded speed has 3, 4 or 5 digits; of F and S in 2539 also 2.
+fn speed_least(edition: Edition, letter: u8) -> u8
+    ensures { λ r. ⌜ r ≡ speedLeast edition letter ⌝ }
+{
+    if !is_later(edition) {
+        return 3;
+    }
+    match letter {
+        b'F' | b'S' => 2,
+        _ => 3,
+    }
+}
 
 // An item with one digit, a speed or a plain number, where it is due: only a dimension has a mark.
 fn make_single(due: bool, speed: bool, low: u8, high: u8, mark: Mark, digits: Digits) -> Making
@@ -100,13 +113,14 @@ pub(crate) fn make_kind(edition: Edition, order: Order, seen: Seen) -> Making
     let mark = seen.mark;
     let digits = seen.digits;
     let turn = order.last < rank_of(letter);
+    let least = speed_least(edition, letter);
     match letter {
         b'G' | b'M' => make_single(turn, false, 2, 2, mark, digits),
         b'T' => make_single(turn, false, 1, 9, mark, digits),
-        b'S' => make_single(turn, true, 3, 5, mark, digits),
+        b'S' => make_single(turn, true, least, 5, mark, digits),
         b'D' | b'E' | b'F' => {
             // A feed where the digits make one or may yet, else a dimension.
-            let feed = make_single(due_as_feed(order, letter), true, 3, 5, mark, digits);
+            let feed = make_single(due_as_feed(order, letter), true, least, 5, mark, digits);
             match feed {
                 Making::Wrong => make_dimension(edition, order, letter, digits),
                 _ => feed,

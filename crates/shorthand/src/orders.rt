@@ -106,13 +106,9 @@ fn rank_reached(order: Order, item: Item) -> u8
 {
     let letter = item.letter;
     let kind = item.kind;
-    let Kind::Speed(digits) = kind else {
+    let Kind::Speed(_) = kind else {
         return rank_of(letter);
     };
-    // A feed has 3, 4 or 5 digits.
-    if !is_within(3, 5, digits) {
-        return rank_of(letter);
-    }
     match letter {
         b'F' => FEEDS,
         b'D' | b'E' => {

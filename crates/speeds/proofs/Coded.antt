@@ -1,19 +1,25 @@
--- A code and the speed that it means, digit by digit: what reading a code and coding a speed have in common.
+-- A code and the speed that it means, by magic three digit by digit: what reading a code and coding a speed have in common.
 use Prim.Native.Nat.{ℕ, _+_, _-_, _*_, _/_, _%_, _^_, _≤_, _<_}
-use mathlib.Core.Path.{_≡_, refl, sym, ap, _∙_}
+use mathlib.Core.Path.{_≡_, refl, sym, ap, _∙_, subst}
 use mathlib.Core.Logic.{⊎-elim}
+use mathlib.Core.Bool.{Bool, true, false, cond}
+use borrow.Author.Tests.{eqb-true, eqb-false}
 use native.Mathlib.Nat.{pow-succ', mul-le-mul-right, mul-lt-mul-of-pos-right, lt-of-mul-lt-mul-right, le-of-mul-le-mul-right, mul-div-cancel, mod-lt, div-add-mod', div-lt-iff-lt-mul}
 use native.Mathlib.Omega.{arith}
-use lib.Dec.{lit<}
+use lib.Dec.{eqb, lit<}
 use lib.Arith.{digits-div, digits-mod, digits-lt}
 use lib.Pow.{pow-add}
 use Rattle.rows.specs.Answer.{taken}
 use Rattle.speeds.specs.Meaning.{otherDigits, meaning, speedFor}
 use Rattle.speeds.specs.Rounding.{Significant, past, rounded}
 use Rattle.speeds.specs.Coding.{written, codeFor}
+use Rattle.speeds.specs.Preferred.{rateOf, stopCode, rapidCode, preferredSpeed}
+use Rattle.speeds.specs.declared.Speed.{Speed}
+use Rattle.speeds.specs.declared.Speed.the-variants.{Stop, Rapid, Rate}
 use Rattle.speeds.proofs.Tens.{ten-positive, ten-grows, ten-below}
 use Rattle.speeds.proofs.Past.{past-law, past-is, past-over}
-use Rattle.speeds.proofs.Answers.{speed-taken, speed-zeros, code-taken, code-zeros, Read, speed-read, Given, Within, code-given}
+use Rattle.speeds.proofs.Answers.{speed-taken, speed-zeros, speed-preferred, code-taken, code-zeros, rate-taken, code-preferred, system, read-length, read-short, magic-read, preferred-read, code-length, Within, magic-given}
+use Rattle.speeds.proofs.PreferredRates.{rate-least, rate-most, nearest-again}
 use Rattle.speeds.proofs.Rounded.{multiple, rounded-same, rounded-zero, rounded-significant}
 
 -- a code c that is not all zeros: its first digit d, and the other k - 1 as the number m, whose own first is not zero
@@ -26,10 +32,11 @@ pub record Figures (k c v : ℕ) : Type 0 where
   pub code : c ≡ d * 10 ^ (k - 1) + m
   pub speed : v ≡ m * 10 ^ (d + 5 - k)
 
--- the code c of k digits means the speed v
-pub data Coded (k : ℕ) : ℕ → ℕ → Type 0 where
-  all-zeros : 3 ≤ k → k ≤ 5 → Coded k 0 0
-  figures : {c v : ℕ} → 3 ≤ k → k ≤ 5 → Figures k c v → Coded k c v
+-- the code c of k digits means the speed s
+pub data Coded (k : ℕ) : ℕ → Speed → Type 0 where
+  all-zeros : 3 ≤ k → k ≤ 5 → Coded k 0 (Rate 0)
+  figures : {c v : ℕ} → 3 ≤ k → k ≤ 5 → Figures k c v → Coded k c (Rate v)
+  preferred : {c : ℕ} → k ≡ 2 → c < 100 → Coded k c (preferredSpeed c)
 
 whole : (k : ℕ) → 0 < k → 10 ^ k ≡ 10 * 10 ^ (k - 1)
 whole k h = ap (λ (n : ℕ). 10 ^ n) (omega arith) ∙ pow-succ' 10 (k - 1)
@@ -73,18 +80,18 @@ module _ (k : ℕ) (three : 3 ≤ k) (five : k ≤ 5) where
     figures-others : c % 10 ^ (k - 1) ≡ h .m
     figures-others = rw (h .code) (digits-mod (h .d) (h .low))
 
-    figures-reads : speedFor k c ≡ taken v
+    figures-reads : speedFor k c ≡ taken (Rate v)
     unfolding meaning
     figures-reads =
         speed-taken k c three five figures-short (rw figures-others (h .high))
-        ∙ ap taken (rw (figures-others, figures-first) (sym (h .speed)))
+        ∙ ap (λ n. taken (Rate n)) (rw (figures-others, figures-first) (sym (h .speed)))
 
     figures-same : rounded (k - 1) v ≡ v
     figures-same =
         rounded-same (k - 1) v (omega arith)
         (record { figures = h .m; zeros = h .d + 5 - k; few = h .low; is = h .speed })
 
-    figures-codes : codeFor k v ≡ taken c
+    figures-codes : codeFor k (Rate v) ≡ taken c
     unfolding written
     figures-codes =
         code-taken k v three five (omega (arith, figures-least)) (rw figures-same figures-least) (rw figures-same figures-most)
@@ -122,47 +129,72 @@ module _ (k : ℕ) (three : 3 ≤ k) (five : k ≤ 5) where
         speed = j .1;
       }
 
+-- a preferred number's speed has that number
+preferred-codes : (c : ℕ) → c < 100 → codeFor 2 (preferredSpeed c) ≡ taken c
+preferred-codes c l = go (eqb c stopCode) (eqb c rapidCode) refl refl
+  where
+    go : (stop rapid : Bool) → eqb c stopCode ≡ stop → eqb c rapidCode ≡ rapid → codeFor 2 (cond stop Stop (cond rapid Rapid (Rate (rateOf c)))) ≡ taken c
+    go true rapid e f = code-preferred Stop ∙ ap taken (sym (eqb-true c stopCode e))
+    go false true e f = code-preferred Rapid ∙ ap taken (sym (eqb-true c rapidCode f))
+    go false false e f =
+        let n = eqb-false c stopCode e in
+        let m = eqb-false c rapidCode f in
+        let some : 1 ≤ c = omega arith in
+        let last : c ≤ 98 = omega arith in
+        rate-taken (rateOf c) (rate-least c some last) (rate-most c some last) ∙ ap taken (nearest-again c some last)
+
+-- a rate of magic three is under ten to the power 13
+abbrev Under : Speed → Type 0
+Under Stop = Unit {0}
+Under Rapid = Unit {0}
+Under (Rate v) = v < 10 ^ 13
+
 -- reading a code and coding a speed answer by this relation
-pub coded-reads : {k c v : ℕ} → Coded k c v → speedFor k c ≡ taken v
-coded-reads {k} (all-zeros three five) = speed-zeros k three five
-coded-reads {k} (figures three five h) = figures-reads k three five h
+module _ {k : ℕ} where
+  pub coded-reads : {c : ℕ} {s : Speed} → Coded k c s → speedFor k c ≡ taken s
+  coded-reads (all-zeros three five) = speed-zeros k three five
+  coded-reads (figures three five h) = figures-reads k three five h
+  coded-reads (preferred {c} two l) = rw two (speed-preferred c l)
 
-pub coded-codes : {k c v : ℕ} → Coded k c v → codeFor k v ≡ taken c
-coded-codes {k} (all-zeros three five) = code-zeros k three five
-coded-codes {k} (figures three five h) = figures-codes k three five h
+  pub coded-codes : {c : ℕ} {s : Speed} → Coded k c s → codeFor k s ≡ taken c
+  coded-codes (all-zeros three five) = code-zeros k three five
+  coded-codes (figures three five h) = figures-codes k three five h
+  coded-codes (preferred {c} two l) = rw two (preferred-codes c l)
 
-pub coded-speed-under : {k c v : ℕ} → Coded k c v → v < 10 ^ 13
-coded-speed-under {k} (all-zeros three five) = lit< tt
-coded-speed-under {k} (figures three five h) = figures-most k three five h
+  pub coded-rate-under : {c : ℕ} {s : Speed} → 3 ≤ k → Coded k c s → Under s
+  coded-rate-under t (all-zeros three five) = lit< tt
+  coded-rate-under t (figures three five h) = figures-most k three five h
+  coded-rate-under t (preferred two l) = absurd (omega arith)
 
-pub coded-code-under : {k c v : ℕ} → Coded k c v → c < 10 ^ k
-coded-code-under {k} (all-zeros three five) = ten-positive k
-coded-code-under {k} (figures three five h) = figures-short k three five h
+  pub coded-code-under : {c : ℕ} {s : Speed} → Coded k c s → c < 10 ^ k
+  coded-code-under (all-zeros three five) = ten-positive k
+  coded-code-under (figures three five h) = figures-short k three five h
+  coded-code-under (preferred two l) = rw two l
 
-pub read-coded : (k c v : ℕ) → speedFor k c ≡ taken v → Coded k c v
-read-coded k c v e = ⊎-elim some none (r .second)
+pub read-coded : (k c : ℕ) {s : Speed} → speedFor k c ≡ taken s → Coded k c s
+read-coded k c {s} e = ⊎-elim two magic (system k (read-length k c e))
   where
-    r : Read k c v
-    r = speed-read k c v e
+    two : k ≡ 2 → Coded k c s
+    two q = let f = rw q at e in rw (← preferred-read c f) (preferred q (rw q at (read-short k c e)))
 
-    some : 10 ^ (k - 2) ≤ otherDigits k c → Coded k c v
-    some h = rw (← r .meant) (figures (r .three) (r .five) (figures-at k (r .three) (r .five) c (r .short) h))
+    magic : 3 ≤ k → Coded k c s
+    magic three =
+        let five : k ≤ 5 = read-length k c e .five in
+        let t = magic-read k c e three in
+        ⊎-elim (λ h. rw (← t .1) (figures three five (figures-at k three five c (read-short k c e) h)))
+        (λ z. let still : s ≡ Rate 0 = (let q = speed-zeros k three five in cc) in subst (λ n. Coded k n s) (sym z) (subst (Coded k 0) (sym still) (all-zeros three five))) (t .0)
 
-    none : c ≡ 0 → Coded k c v
-    none z =
-        let still : v ≡ 0 = cc (speed-zeros k (r .three) (r .five)) in
-        rw (z, still) (all-zeros (r .three) (r .five))
-
-pub code-coded : (k v c : ℕ) → codeFor k v ≡ taken c → Coded k c (rounded (k - 1) v)
-code-coded k v c e = ⊎-elim none some (g .result)
+-- by magic three the code of a rate is that of the rate rounded
+pub magic-coded : (k v c : ℕ) → 3 ≤ k → codeFor k (Rate v) ≡ taken c → Coded k c (Rate (rounded (k - 1) v))
+magic-coded k v c three e = ⊎-elim none some (magic-given k v c three e)
   where
-    g : Given k v c
-    g = code-given k v c e
+    five : k ≤ 5
+    five = code-length k (Rate v) e .five
 
-    none : (v ≡ 0) × (c ≡ 0) → Coded k c (rounded (k - 1) v)
-    none z = rw (z .0, z .1, rounded-zero) (all-zeros (g .three) (g .five))
+    none : (v ≡ 0) × (c ≡ 0) → Coded k c (Rate (rounded (k - 1) v))
+    none z = rw (z .0, z .1, rounded-zero) (all-zeros three five)
 
-    some : Within k (rounded (k - 1) v) c → Coded k c (rounded (k - 1) v)
+    some : Within k (rounded (k - 1) v) c → Coded k c (Rate (rounded (k - 1) v))
     some w =
-        rw (← w .same) (figures (g .three) (g .five)
-        (figures-of k (g .three) (g .five) (rounded (k - 1) v) (rounded-significant (k - 1) v (omega (arith, g .three))) (w .least) (w .most)))
+        rw (← w .same) (figures three five
+        (figures-of k three five (rounded (k - 1) v) (rounded-significant (k - 1) v (omega (arith, three))) (w .least) (w .most)))

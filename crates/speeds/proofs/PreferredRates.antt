@@ -10,8 +10,8 @@ use lib.Dec.{T, eqb, leb, ltb, leb→le}
 use lib.ListN.{getD}
 use borrow.Author.Tests.{eqb-true, ltb-true, leb-true, leb-false, le-leb, lt-leb}
 use Rattle.rows.proofs.Tabulated.{tab-passes}
-use Rattle.speeds.specs.Rounding.{NoNearer}
-use Rattle.speeds.specs.Preferred.{rates, rateOf, nextAsNear, climbed, nearestCode, NearestCode}
+use Rattle.speeds.specs.Rounding.{apart, NoNearer}
+use Rattle.speeds.specs.Preferred.{rates, rateOf, nextAsNear, climbed, nearestCode, NearestCode, leastRate, mostRate}
 
 -- the rate of a code by its place in the table
 pub rate-at : (k : ℕ) → rateOf (k + 1) ≡ getD rates k 0
@@ -30,9 +30,13 @@ rule-of-ten c l h =
     let on : (c + 20) - 1 ≡ (c - 1) + 20 = omega arith in
     rw on (eqb-true _ _ (tab-passes (λ k. eqb (getD rates (k + 20) 0) (10 * getD rates k 0)) 78 refl (c - 1) (omega arith)))
 
-pub rate-most : (c : ℕ) → 1 ≤ c → c ≤ 98 → rateOf c ≤ 800_000_000_000
+pub rate-least : (c : ℕ) → 1 ≤ c → c ≤ 98 → leastRate ≤ rateOf c
 unfolding rates
-rate-most c l h = leb-true _ _ (tab-passes (λ k. leb (getD rates k 0) 800_000_000_000) 98 refl (c - 1) (omega arith))
+rate-least c l h = leb-true _ _ (tab-passes (λ k. leb leastRate (getD rates k 0)) 98 refl (c - 1) (omega arith))
+
+pub rate-most : (c : ℕ) → 1 ≤ c → c ≤ 98 → rateOf c ≤ mostRate
+unfolding rates
+rate-most c l h = leb-true _ _ (tab-passes (λ k. leb (getD rates k 0) mostRate) 98 refl (c - 1) (omega arith))
 
 -- d codes on
 grown : (d c : ℕ) → 1 ≤ c → c + d ≤ 98 → rateOf c ≤ rateOf (c + d)
@@ -81,6 +85,24 @@ climbs (suc n) v c l e over = go (nextAsNear v c) refl (λ t. climbs n v (c + 1)
 
 pub nearest-code : (v : ℕ) → NearestCode v (nearestCode v)
 nearest-code v = climbs 97 v 1 (le-refl 1) refl (λ b k h. absurd (omega arith))
+
+-- the nearest to a rate of the table is that rate
+pub nearest-again : (c : ℕ) → 1 ≤ c → c ≤ 98 → nearestCode (rateOf c) ≡ c
+nearest-again c l m = only (nearestCode (rateOf c)) (nearest-code (rateOf c))
+  where
+    apart-none : (a b : ℕ) → apart a b ≤ apart b b → a ≡ b
+    apart-none a b h = omega arith
+
+    only : (n : ℕ) → NearestCode (rateOf c) n → n ≡ c
+    only n h =
+        let e = apart-none (rateOf n) (rateOf c) (h .nearest c l m .close) in
+        elim (decLt n c) [
+          | yes b ↦ let g = rates-grow n (h .some) (omega (arith, m)) in let u = rates-up (n + 1) c (omega arith) (omega arith) m in absurd (omega (arith, e, g, u))
+          | no b ↦ elim (decLt c n) [
+            | yes a ↦ let w = h .within in let g = rates-grow c l (omega (arith, w)) in let u = rates-up (c + 1) n (omega arith) (omega arith) w in absurd (omega (arith, e, g, u))
+            | no a ↦ omega arith
+          ]
+        ]
 
 -- ---- for the function: the climb by the table's places
 

@@ -2,6 +2,7 @@
 use Prim.Native.Nat.{ℕ, _+_, _-_, _*_, _/_, _%_, _^_, _≤_, _<_}
 use mathlib.Core.Path.{_≡_, ap, _∙_}
 use Rattle.rows.specs.Answer.{taken, refused}
+use Rattle.speeds.specs.declared.Speed.the-variants.{Rate}
 use Rattle.speeds.specs.Meaning.{meaning, speedFor}
 use Rattle.speeds.specs.Rounding.{past, rounded}
 use Rattle.speeds.specs.Coding.{written, codeFor}
@@ -16,12 +17,12 @@ module _ (k code : ℕ) (three : 3 ≤ k) (five : k ≤ 5) (l : code < 10 ^ k) {
   pub second-zero : code % u < 10 ^ (k - 2) → 0 < code → speedFor k code ≡ refused 13 0
   second-zero z n = speed-second-zero k code three five l (rw e at z) n
 
-  pub speed-is : {t : ℕ} → 10 ^ (k - 2) ≤ code % u → t ≡ 10 ^ (code / u + 5 - k) → speedFor k code ≡ taken (code % u * t)
+  pub speed-is : {t : ℕ} → 10 ^ (k - 2) ≤ code % u → t ≡ 10 ^ (code / u + 5 - k) → speedFor k code ≡ taken (Rate (code % u * t))
   unfolding meaning
-  speed-is z f = speed-taken k code three five l (rw e at z) ∙ ap taken (rw (f, e))
+  speed-is z f = speed-taken k code three five l (rw e at z) ∙ ap (λ n. taken (Rate n)) (rw (f, e))
 
--- of a speed v: rounded r, its first digit d, the unit u, and the power of ten t that d asks for
+-- of a rate v: rounded r, its first digit d, the unit u, and the power of ten t that d asks for
 module _ (k v : ℕ) (three : 3 ≤ k) (five : k ≤ 5) (n : 0 < v) {r d u t : ℕ} where
-  pub code-is : r ≡ rounded (k - 1) v → 1_000 ≤ r → r < 10 ^ 13 → d ≡ past 4 r → u ≡ 10 ^ (k - 1) → t ≡ 10 ^ (d + 5 - k) → codeFor k v ≡ taken (d * u + r / t)
+  pub code-is : r ≡ rounded (k - 1) v → 1_000 ≤ r → r < 10 ^ 13 → d ≡ past 4 r → u ≡ 10 ^ (k - 1) → t ≡ 10 ^ (d + 5 - k) → codeFor k (Rate v) ≡ taken (d * u + r / t)
   unfolding written
   code-is e l m f g h = code-taken k v three five n (rw e at l) (rw e at m) ∙ ap taken (rw (h, g, f, e))

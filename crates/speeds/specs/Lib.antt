@@ -1,5 +1,5 @@
--- What the crate's promises cite: the meaning of a code, rounding, a speed's code; the preferred numbers.
-pub mod Meaning
+-- What the crate's promises cite: rounding, the preferred numbers, the meaning of a code, a speed's code.
 pub mod Rounding
-pub mod Coding
 pub mod Preferred
+pub mod Meaning
+pub mod Coding

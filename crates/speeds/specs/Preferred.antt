@@ -1,9 +1,12 @@
--- Preferred numbers: the rates of codes of two digits (document 004, A.1.2), in ten-millionths, and the code of the nearest rate.
+-- Preferred numbers: the speeds of codes of two digits (documents 004, A.1.2, and 02, 4/12), rates in ten-millionths, and the code of the nearest rate.
 use Prim.Native.Nat.{ℕ, zero, suc, _+_, _-_, _*_, _≤_}
-use mathlib.Core.Bool.{Bool, cond}
+use mathlib.Core.Bool.{Bool, _&&_, cond}
 use mathlib.Core.List.{List, [], _∷_}
-use lib.Dec.{leb}
+use lib.Dec.{eqb, leb}
 use lib.ListN.{getD}
+use Rattle.rows.specs.Answer.{Answer, taken, refused}
+use Rattle.speeds.specs.declared.Speed.{Speed}
+use Rattle.speeds.specs.declared.Speed.the-variants.{Stop, Rapid, Rate}
 use Rattle.speeds.specs.Rounding.{NoNearer}
 
 -- the rates of the codes 01 to 98, one behind another, as the table prints them
@@ -31,6 +34,18 @@ lastCode = 98
 abbrev pub rateOf : ℕ → ℕ
 rateOf c = getD rates (c - 1) 0
 
+abbrev pub stopCode : ℕ
+stopCode = 0
+
+abbrev pub rapidCode : ℕ
+rapidCode = 99
+
+-- 00 is stop, 99 rapid, every other code a rate
+abbrev pub preferredSpeed : ℕ → Speed
+preferredSpeed c = cond (eqb c stopCode) Stop (cond (eqb c rapidCode) Rapid (Rate (rateOf c)))
+
+-- ---- coding
+
 -- the rate behind that of code c is at least as near to v
 abbrev pub nextAsNear : ℕ → ℕ → Bool
 nextAsNear v c = leb (rateOf c + rateOf (c + 1)) (2 * v)
@@ -49,3 +64,16 @@ pub record NearestCode (v c : ℕ) : Type 0 where
   pub some : 1 ≤ c
   pub within : c ≤ lastCode
   pub nearest : (b : ℕ) → 1 ≤ b → b ≤ lastCode → NoNearer v (rateOf c) (rateOf b)
+
+-- rates under the least or over the most are refused
+abbrev pub leastRate : ℕ
+leastRate = 11_200_000
+
+abbrev pub mostRate : ℕ
+mostRate = 800_000_000_000
+
+-- speed to code of two digits
+abbrev pub preferredCode : Speed → Answer ℕ
+preferredCode Stop = taken stopCode
+preferredCode Rapid = taken rapidCode
+preferredCode (Rate v) = cond (leb leastRate v && leb v mostRate) (taken (nearestCode v)) (refused 20 0)

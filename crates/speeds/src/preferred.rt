@@ -1,7 +1,14 @@
-// Preferred numbers: the rates of two-digit codes, and the code of the nearest rate.
+// Preferred numbers: the speeds of two-digit codes, and the code of the nearest rate.
 ghost use mathlib.Core.Path.{_≡_};
 ghost use Prim.Native.Nat.{_≤_};
-ghost use Rattle.speeds.specs.Preferred.{rates, lastCode, rateOf, nearestCode};
+ghost use Rattle.speeds.specs.Preferred.{rates, lastCode, rateOf, nearestCode, mostRate};
+ghost use Rattle.speeds.specs.Meaning.{speedFor};
+ghost use Rattle.speeds.specs.Coding.{speedTold, codeTold, codeFor};
+use crate::Code;
+use crate::NOT_CODABLE;
+use crate::Speed;
+use crate::SpeedRead;
+use crate::WRONG_LENGTH;
 
 // The rates of the codes 01 to 98 in ten-millionths.
 const RATES: [u64; 98] = [
@@ -113,7 +120,7 @@ fn lay_out() -> [u64; 98]
 }
 
 // The rate of a code from 1 to 98.
-pub fn rate_of(code: usize) -> u64
+fn rate_of(code: usize) -> u64
     requires { ⌜ (1 ≤ code) × (code ≤ lastCode) ⌝ }
     ensures { λ r. ⌜ r ≡ rateOf code ⌝ }
 {
@@ -122,8 +129,8 @@ pub fn rate_of(code: usize) -> u64
 }
 
 // The code of the rate that is nearest, the larger of two equally near.
-pub fn nearest_code(rate: u64) -> usize
-    requires { ⌜ rate ≤ 800_000_000_000 ⌝ }
+fn nearest_code(rate: u64) -> usize
+    requires { ⌜ rate ≤ mostRate ⌝ }
     ensures { λ r. ⌜ r ≡ nearestCode rate ⌝ }
 {
     let rates = lay_out();
@@ -135,4 +142,30 @@ pub fn nearest_code(rate: u64) -> usize
         at += 1;
     }
     98
+}
+
+// 00 is stop, 99 rapid, every other code of two digits a rate.
+pub(crate) fn speed_of(code: u64) -> SpeedRead
+    ensures { λ r. ⌜ speedTold r ≡ speedFor 2 code ⌝ }
+{
+    match code {
+        0 => SpeedRead::Is(Speed::Stop),
+        1..=98 => SpeedRead::Is(Speed::Rate(rate_of(code as usize))),
+        99 => SpeedRead::Is(Speed::Rapid),
+        _ => SpeedRead::Refused(WRONG_LENGTH),
+    }
+}
+
+// The nearest rate's code; a rate beyond the table is refused.
+pub(crate) fn code_of(speed: Speed) -> Code
+    ensures { λ r. ⌜ codeTold r ≡ codeFor 2 speed ⌝ }
+{
+    match speed {
+        Speed::Stop => Code::Number(0),
+        Speed::Rapid => Code::Number(99),
+        Speed::Rate(rate) => match rate {
+            11_200_000..=800_000_000_000 => Code::Number(nearest_code(rate) as u64),
+            _ => Code::Refused(NOT_CODABLE),
+        },
+    }
 }

@@ -7,8 +7,10 @@ use mathlib.Core.List.{List, [], _∷_, _++_}
 use lib.Dec.{ltb}
 use lib.IntN.{natAbs}
 use lib.ListN.{length}
+use Rattle.speeds.specs.declared.Speed.{Speed}
+use Rattle.speeds.specs.declared.Speed.the-variants.{Stop, Rapid, Rate}
 use Rattle.words.specs.declared.Value.{Value}
-use Rattle.words.specs.declared.Value.the-variants.{Number, Dimension, Speed}
+use Rattle.words.specs.declared.Value.the-variants.{Number, Dimension}
 use Rattle.words.specs.declared.Word.{Word}
 use Rattle.reading.specs.Relation.{zeros}
 use Rattle.punching.specs.Rows.{minus}
@@ -31,11 +33,17 @@ decimal v = decimalIn 20 v
 abbrev pub full : ℕ → ℕ → List ℕ
 full n v = zeros (n - length (decimal v)) ++ decimal v
 
--- plain decimal, a minus before a negative dimension; speeds in units
+-- a speed's own word, or its units
+abbrev pub speedText : Speed → List ℕ
+speedText Stop = text "stop"
+speedText Rapid = text "rapid"
+speedText (Rate v) = decimal v
+
+-- plain decimal, a minus before a negative dimension
 abbrev pub valueText : Value → List ℕ
 valueText (Number v) = decimal v
 valueText (Dimension z) = cond (minus z) (45 ∷ []) [] ++ decimal (natAbs z)
-valueText (Speed v) = decimal v
+valueText (Value.Speed s) = speedText s
 
 -- a space, the letter, the value
 abbrev pub wordText : Word → List ℕ

@@ -6,10 +6,11 @@ ghost use Prim.Native.Nat.{_+_, _≤_, _<_, max};
 ghost use lib.ListN.{length};
 ghost use Rattle.io.specs.Digits.{digits, Fewest};
 ghost use Rattle.words.specs.declared.Value.the-variants.{Dimension};
-ghost use Rattle.text.specs.Text.{decimal, full, valueText, wordText, startText};
+ghost use Rattle.text.specs.Text.{decimal, full, speedText, valueText, wordText, startText};
 ghost use Rattle.text.specs.Line.{Put};
 use parts::Begun;
 use punching::magnitude_of;
+use speeds::Speed;
 use words::Value;
 use words::Word;
 
@@ -104,6 +105,19 @@ fn put_dimension(line: &mut [u8], at: usize, z: i64) -> usize
     put_decimal(line, next, m.size)
 }
 
+// A stop and rapid by their words.
+fn put_speed(line: &mut [u8], at: usize, speed: Speed) -> usize
+    requires { ⌜ at + 20 ≤ length (now line) ⌝ }
+    ensures put { λ r. ⌜ Put (now (line .entry)) at (speedText speed) (now (line .exit)) r ⌝ }
+    ensures end { λ r. ⌜ r ≤ at + 20 ⌝ }
+{
+    match speed {
+        Speed::Stop => put_all(line, at, b"stop"),
+        Speed::Rapid => put_all(line, at, b"rapid"),
+        Speed::Rate(v) => put_decimal(line, at, v),
+    }
+}
+
 fn put_value(line: &mut [u8], at: usize, value: Value) -> usize
     requires { ⌜ at + 21 ≤ length (now line) ⌝ }
     ensures put { λ r. ⌜ Put (now (line .entry)) at (valueText value) (now (line .exit)) r ⌝ }
@@ -112,7 +126,7 @@ fn put_value(line: &mut [u8], at: usize, value: Value) -> usize
     match value {
         Value::Number(v) => put_decimal(line, at, v),
         Value::Dimension(z) => put_dimension(line, at, z),
-        Value::Speed(v) => put_decimal(line, at, v),
+        Value::Speed(s) => put_speed(line, at, s),
     }
 }
 

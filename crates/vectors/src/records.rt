@@ -11,7 +11,10 @@ use crate::asked::next_part;
 use crate::asked::number;
 use crate::asked::part;
 use crate::asked::rest;
+use crate::speed_cases::put_speed;
+use crate::speed_cases::speed_of;
 use reading::Block;
+use speeds::Speed;
 use words::Value;
 use words::Word;
 
@@ -31,7 +34,7 @@ fn behind_digits(text: &[u8]) -> &[u8] {
 fn value_of(text: &[u8]) -> Value {
     let digits = behind_first(text);
     match first_of(text) {
-        b'S' => Value::Speed(number(digits)),
+        b'S' => Value::Speed(speed_of(digits)),
         b'D' => Value::Dimension(integer(digits)),
         _ => Value::Number(number(digits)),
     }
@@ -126,6 +129,11 @@ fn put_kind(out: &mut [u8], start: usize, kind: u8, v: u64) -> usize {
     put_decimal(out, at, v)
 }
 
+fn put_said(out: &mut [u8], start: usize, speed: Speed) -> usize {
+    let at = put(out, start, b'S');
+    put_speed(out, at, speed)
+}
+
 fn put_word(out: &mut [u8], start: usize, word: Word) -> usize {
     let value = word.value;
     let letter = put(out, start, b' ');
@@ -133,7 +141,7 @@ fn put_word(out: &mut [u8], start: usize, word: Word) -> usize {
     match value {
         Value::Number(v) => put_kind(out, at, b'N', v),
         Value::Dimension(z) => put_dimension(out, at, z),
-        Value::Speed(v) => put_kind(out, at, b'S', v),
+        Value::Speed(s) => put_said(out, at, s),
     }
 }
 

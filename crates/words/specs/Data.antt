@@ -5,6 +5,7 @@ use mathlib.Core.List.{List}
 use lib.IntN.{ℤ, pos, negℤ}
 use Rattle.rows.specs.Answer.{Answer, taken, refused, _>>=_}
 use Rattle.rows.specs.Kept.{KeptRow}
+use Rattle.speeds.specs.declared.Speed.{Speed}
 use Rattle.speeds.specs.Meaning.{speedFor}
 use Rattle.shorthand.specs.declared.Kind.{Kind}
 use Rattle.shorthand.specs.declared.Kind.the-variants.{Plain}
@@ -22,8 +23,8 @@ signedValue true m = negℤ (pos m)
 signedValue false m = pos m
 
 -- 13 stands at the word's first row: its address, or without addresses its first digit
-abbrev pub spoken : ℕ → Answer ℕ → Answer Value
-spoken a (taken v) = taken (Value.Speed v)
+abbrev pub spoken : ℕ → Answer Speed → Answer Value
+spoken a (taken s) = taken (Value.Speed s)
 spoken a (refused n p) = refused n a
 
 -- what the figures of a word mean that begins at row a

@@ -25,6 +25,7 @@ use shorthand::Item;
 use shorthand::Kind;
 use shorthand::Mark;
 use shorthand::Missing;
+use speeds::SpeedRead;
 
 // What a kind allows, told apart once for a word.
 fn shape_of(kind: Kind) -> Shape
@@ -140,8 +141,8 @@ fn mean(at: usize, kind: Kind, minus: bool, m: u64) -> Meant
     match kind {
         Kind::Plain(_) => Meant::Is(Value::Number(m)),
         Kind::Speed(k) => match speeds::speed_of(k as u32, m) {
-            speeds::Speed::Units(v) => Meant::Is(Value::Speed(v)),
-            speeds::Speed::Refused(r) => Meant::Refused(Refusal {
+            SpeedRead::Is(s) => Meant::Is(Value::Speed(s)),
+            SpeedRead::Refused(r) => Meant::Refused(Refusal {
                 number: r.number,
                 place: at,
             }),

@@ -5,12 +5,13 @@ pub mod figures;
 use rows::Next;
 use rows::Refusal;
 use shorthand::Missing;
+use speeds::Speed;
 
-// What a word says: a plain number, a dimension in the last decimal place, or a speed in ten-millionths.
+// What a word says: a plain number, a dimension in the last decimal place, or a speed.
 pub enum Value {
     Number(u64),
     Dimension(i64),
-    Speed(u64),
+    Speed(Speed),
 }
 
 pub struct Word {

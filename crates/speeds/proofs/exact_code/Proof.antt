@@ -1,6 +1,8 @@
 -- `speeds::exact_code`: the code of the speed, read back, means the speed or not.
+use mathlib.Core.Path.{sym, _∙_}
+use mathlib.Core.Bool.{true, false}
 use borrow.Author.Needs.{needs}
-use Rattle.speeds.proofs.ExactCode.{exact-none, exact-unread, exact-same, exact-other}
+use Rattle.speeds.proofs.ExactCode.{exact-none, exact-unread, exact-read}
 use Rattle.speeds.proofs.exact_code.Statement.{statement}
 use Rattle.speeds.proofs.exact_code.Tie as tie
 
@@ -31,18 +33,22 @@ returns-2 c =
     (rw (c .before .before .before .before .code .given .1) at (c .before .before .before .before .before .before .code-of .ensures))
     (rw (c .enum-told2 .given .1) at (c .before .before .speed-of .ensures))
 
+is-same-requires : tie.Need-is-same-requires
+is-same-requires c κs = search needs
+
 returns-3 : tie.Need-returns-3
 returns-3 c =
-    exact-same _ _
-    (rw (c .before .before .before .before .before .before .code .given .1) at (c .before .before .before .before .before .before .before .before .code-of .ensures))
-    (rw (c .before .before .meant .given .1, c .if1 .taken) at (c .before .before .before .before .speed-of .ensures))
+    exact-read _ _
+    (rw (c .before .before .before .before .before .before .before .code .given .1) at (c .before .before .before .before .before .before .before .before .before .code-of .ensures))
+    true (rw (c .before .before .before .meant .given .1) at (c .before .before .before .before .before .speed-of .ensures))
+    (sym (c .if1 .taken) ∙ c .before .is-same .ensures)
 
 returns-4 : tie.Need-returns-4
 returns-4 c =
-    exact-other _ _
-    (rw (c .before .before .before .before .before .before .code .given .1) at (c .before .before .before .before .before .before .before .before .code-of .ensures))
-    (rw (c .before .before .meant .given .1) at (c .before .before .before .before .speed-of .ensures))
-    (c .if1 .left)
+    exact-read _ _
+    (rw (c .before .before .before .before .before .before .before .code .given .1) at (c .before .before .before .before .before .before .before .before .before .code-of .ensures))
+    false (rw (c .before .before .before .meant .given .1) at (c .before .before .before .before .before .speed-of .ensures))
+    (sym (c .if1 .left) ∙ c .before .is-same .ensures)
 
 pub exact-code-spec : {M : Type 1} → statement M
 exact-code-spec =
@@ -56,5 +62,6 @@ exact-code-spec =
     enum-known-meant
     enum-told-2
     returns-2
+    is-same-requires
     returns-3
     returns-4)

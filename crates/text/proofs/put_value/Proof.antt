@@ -22,8 +22,8 @@ put-dimension-requires c κs = search needs
 enum-known-value-3 : tie.Need-enum-known-value-3
 enum-known-value-3 c = search needs
 
-put-decimal-requires-2 : tie.Need-put-decimal-requires-2
-put-decimal-requires-2 c κs = search needs
+put-speed-requires : tie.Need-put-speed-requires
+put-speed-requires c κs = search needs
 
 same-length : tie.Need-same-length
 same-length c = search needs
@@ -41,7 +41,7 @@ same-length-3 : tie.Need-same-length-3
 same-length-3 c = search needs
 
 returns-3 : tie.Need-returns-3
-returns-3 c = (rw (c .before .before .before .before .before .value3 .given .1) (c .before .before .put-decimal2 .ensures .0), omega (arith, c .before .before .put-decimal2 .ensures .1))
+returns-3 c = (rw (c .before .before .before .before .before .value3 .given .1) (c .before .before .put-speed .ensures .0), omega (arith, c .before .before .put-speed .ensures .1))
 
 pub put-value-spec : {M : Type 1} → statement M
 put-value-spec =
@@ -52,7 +52,7 @@ put-value-spec =
     enum-known-value-2
     put-dimension-requires
     enum-known-value-3
-    put-decimal-requires-2
+    put-speed-requires
     same-length
     returns
     same-length-2

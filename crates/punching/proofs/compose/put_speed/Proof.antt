@@ -3,8 +3,9 @@ use borrow.Author.Needs.{needs}
 use native.Mathlib.Omega.{arith}
 use mathlib.Core.Path.{_∙_, sym, ap}
 use Rattle.rows.specs.Answer.{taken}
+use Rattle.speeds.proofs.Bounds.{exact-code-under}
 use Rattle.reading.proofs.DigitRows.{digits-length}
-use Rattle.punching.proofs.DataSteps.{speed-other, speed-inexact, speed-coded, code-short}
+use Rattle.punching.proofs.DataSteps.{speed-other, speed-inexact, speed-coded}
 use Rattle.punching.proofs.compose.put_speed.Statement.{statement}
 use Rattle.punching.proofs.compose.put_speed.Tie as tie
 
@@ -33,7 +34,7 @@ returns-2 : tie.Need-returns-2
 returns-2 c = (rw (c .refuse2 .ensures, c .before .before .before .before .before .value .given .1, speed-inexact _ _ _ (sym (c .before .enum-told .given .1) ∙ c .before .before .before .exact-code .ensures)), rw (c .refuse2 .ensures) (omega arith))
 
 put-digits-requires : tie.Need-put-digits-requires
-put-digits-requires c κs = (omega arith, omega arith, code-short _ _ _ (sym (c .before .before .code .given .1) ∙ c .before .before .before .before .exact-code .ensures))
+put-digits-requires c κs = (omega arith, omega arith, exact-code-under _ _ _ (sym (c .before .before .before .before .exact-code .ensures) ∙ c .before .before .code .given .1))
 
 same-length : tie.Need-same-length
 same-length c = search needs

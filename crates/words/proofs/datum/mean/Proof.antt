@@ -20,8 +20,8 @@ cast-speed-of c = search needs
 speed-of-requires : tie.Need-speed-of-requires
 speed-of-requires c κs = search needs
 
-enum-known-v : tie.Need-enum-known-v
-enum-known-v c = search needs
+enum-known-s : tie.Need-enum-known-s
+enum-known-s c = search needs
 
 enum-known-r : tie.Need-enum-known-r
 enum-known-r c = search needs
@@ -38,7 +38,7 @@ returns c = rw (c .enum-told .given .1)
 returns-2 : tie.Need-returns-2
 returns-2 c =
     let speed = c .before .before .before in
-    rw (speed .before .before .kind .given .1, sym (speed .speed-of .ensures) ∙ ap speedTold (c .before .v .given .1))
+    rw (speed .before .before .kind .given .1, sym (speed .speed-of .ensures) ∙ ap speedTold (c .before .s .given .1))
 
 returns-3 : tie.Need-returns-3
 returns-3 c =
@@ -58,7 +58,7 @@ mean-spec =
     enum-known-kind
     cast-speed-of
     speed-of-requires
-    enum-known-v
+    enum-known-s
     enum-known-r
     enum-told-2
     with-sign-requires

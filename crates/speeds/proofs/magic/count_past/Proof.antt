@@ -1,12 +1,12 @@
--- `speeds::count_past`: the loop stops at the first power of ten that v does not reach, and all before are reached.
+-- `speeds::magic::count_past`: the loop stops at the first power of ten that v does not reach, and all before are reached.
 use Prim.Native.Nat.{_+_, _-_, _*_, _^_, _≤_, _<_}
 use mathlib.Core.Path.{sym}
 use native.Mathlib.Omega.{arith}
 use borrow.Author.Needs.{needs}
 use Rattle.speeds.proofs.Tens.{ten-below, ten-next}
 use Rattle.speeds.proofs.Past.{past-is}
-use Rattle.speeds.proofs.count_past.Statement.{statement}
-use Rattle.speeds.proofs.count_past.Tie as tie
+use Rattle.speeds.proofs.magic.count_past.Statement.{statement}
+use Rattle.speeds.proofs.magic.count_past.Tie as tie
 
 abbrev Inv-loop : tie.InvT-loop
 Inv-loop s v p₀ p = (s + p ≤ 13) × (0 < p → 10 ^ (s + p) ≤ 10 * v)

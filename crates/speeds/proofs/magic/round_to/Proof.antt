@@ -1,4 +1,4 @@
--- `speeds::round_to`: what stands over a multiple of the unit is dropped where it is less than half, and else filled up.
+-- `speeds::magic::round_to`: what stands over a multiple of the unit is dropped where it is less than half, and else filled up.
 use native.Mathlib.Omega.{arith}
 use native.Mathlib.Nat.{mod-le}
 use mathlib.Core.Path.{sym}
@@ -7,8 +7,8 @@ use Rattle.speeds.specs.Rounding.{rounded}
 use Rattle.speeds.proofs.Tens.{ten-positive}
 use Rattle.speeds.proofs.Past.{past-most}
 use Rattle.speeds.proofs.Nearest.{nearest-down, nearest-up}
-use Rattle.speeds.proofs.round_to.Statement.{statement}
-use Rattle.speeds.proofs.round_to.Tie as tie
+use Rattle.speeds.proofs.magic.round_to.Statement.{statement}
+use Rattle.speeds.proofs.magic.round_to.Tie as tie
 
 count-past-requires : tie.Need-count-past-requires
 count-past-requires c κs = search needs

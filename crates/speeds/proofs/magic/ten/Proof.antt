@@ -1,9 +1,9 @@
--- `speeds::ten`: the table holds the powers of ten, one after the other.
+-- `speeds::magic::ten`: the table holds the powers of ten, one after the other.
 use native.Mathlib.Omega.{arith}
 use borrow.Author.Needs.{needs}
 use Rattle.speeds.proofs.Tens.{power-at}
-use Rattle.speeds.proofs.ten.Statement.{statement}
-use Rattle.speeds.proofs.ten.Tie as tie
+use Rattle.speeds.proofs.magic.ten.Statement.{statement}
+use Rattle.speeds.proofs.magic.ten.Tie as tie
 
 mul-result : tie.Need-mul-result
 mul-result c = search needs
