@@ -30,8 +30,9 @@ enum { PROTECT_NONE = 0, PROTECT_READ_WRITE = 3, MAP_OWN_ANONYMOUS = 0x22, CLOCK
 #define MOST_TAPE ((size_t)32 * GUARD)
 #define MOST_TEXT GUARD
 
-/* What *place and *value hold before a call: an answer that was not written shows. */
+/* What *place and *value hold before a call, and *kind: an answer that was not written shows. */
 #define UNWRITTEN UINT64_C(0xA5A5A5A5A5A5A5A5)
+#define UNWRITTEN_KIND ((uint32_t)UNWRITTEN)
 
 /* ---- saying things */
 
@@ -111,36 +112,49 @@ static struct slice text_slice(const char *text) {
 
 /* ---- the self-test */
 
+/* The kind is a speed's; any other value has kind 0. */
 struct answer {
     uint64_t number;
     uint64_t place;
+    uint64_t kind;
     uint64_t value;
 };
+
+static const struct answer unwritten = {0, UNWRITTEN, 0, UNWRITTEN};
 
 static unsigned long tests;
 static unsigned long faults;
 
-static void expect(const char *what, struct answer found, uint64_t number, uint64_t place, uint64_t value) {
+static void say_answer(struct answer answer) {
+    say("number ");
+    say_number(answer.number);
+    say(" place ");
+    say_number(answer.place);
+    if (answer.kind != 0) {
+        say(" kind ");
+        say_number(answer.kind);
+    }
+    say(" value ");
+    say_number(answer.value);
+}
+
+static void expect_answer(const char *what, struct answer found, struct answer due) {
     tests += 1;
-    if (found.number == number && found.place == place && found.value == value) {
+    if (memcmp(&found, &due, sizeof due) == 0) {
         return;
     }
     faults += 1;
     say("door: ");
     say(what);
     say(": found ");
-    say_number(found.number);
-    say(" ");
-    say_number(found.place);
-    say(" ");
-    say_number(found.value);
+    say_answer(found);
     say(", not ");
-    say_number(number);
-    say(" ");
-    say_number(place);
-    say(" ");
-    say_number(value);
+    say_answer(due);
     say("\n");
+}
+
+static void expect(const char *what, struct answer found, uint64_t number, uint64_t place, uint64_t value) {
+    expect_answer(what, found, (struct answer){number, place, 0, value});
 }
 
 static void expect_true(const char *what, int holds) {
@@ -162,7 +176,7 @@ struct counted {
 };
 
 static struct answer count_blocks(struct counted counted) {
-    struct answer answer = {0, UNWRITTEN, UNWRITTEN};
+    struct answer answer = unwritten;
     answer.number = crumbtrellis_count_blocks(counted.edition, counted.shorthand.bytes, counted.shorthand.length,
                                               counted.profile.bytes, counted.profile.length, counted.tape.bytes,
                                               counted.tape.length, &answer.place, &answer.value);
@@ -170,19 +184,25 @@ static struct answer count_blocks(struct counted counted) {
 }
 
 static struct answer speed_of(uint32_t digits, uint64_t code) {
-    struct answer answer = {0, UNWRITTEN, UNWRITTEN};
-    answer.number = crumbtrellis_speed_of(digits, code, &answer.place, &answer.value);
+    struct answer answer = unwritten;
+    /* its neighbours show a number written too wide */
+    uint32_t kind[3] = {UNWRITTEN_KIND, UNWRITTEN_KIND, UNWRITTEN_KIND};
+    answer.number = crumbtrellis_speed_of(digits, code, &answer.place, &kind[1], &answer.value);
+    if (kind[0] != UNWRITTEN_KIND || kind[2] != UNWRITTEN_KIND) {
+        fail("what stands beside the kind was changed");
+    }
+    answer.kind = kind[1];
     return answer;
 }
 
-static struct answer code_of(uint32_t digits, uint64_t speed) {
-    struct answer answer = {0, UNWRITTEN, UNWRITTEN};
-    answer.number = crumbtrellis_code_of(digits, speed, &answer.place, &answer.value);
+static struct answer code_of(uint32_t digits, uint32_t kind, uint64_t units) {
+    struct answer answer = unwritten;
+    answer.number = crumbtrellis_code_of(digits, kind, units, &answer.place, &answer.value);
     return answer;
 }
 
 static struct answer punch_head(uint8_t *buffer, size_t length) {
-    struct answer answer = {0, UNWRITTEN, UNWRITTEN};
+    struct answer answer = unwritten;
     answer.number = crumbtrellis_punch_head(buffer, length, &answer.place, &answer.value);
     return answer;
 }
@@ -257,6 +277,14 @@ static void test_counts(const struct desk *desk) {
     expect_count(desk, 1057, format, "%\nN001\t\t\tF100\n", 13, 9, 0);
     expect_count(desk, 1057, format, "%\nN001", 14, 6, 0);
 
+    /* speeds of two digits, none of which gives 13 */
+    expect_count(desk, 2539, "N3.F2.S2*", "%\nN001\tF00\tS99\nN002\tF10\n", 0, 0, 2);
+    expect_count(desk, 2539, "N3.F2.S2*", "%\nN001\tF100\n", 11, 10, 0);
+    expect_count(desk, 1057, "N3.F2*", "%\n", 3, 2, 0);
+    expect_count(desk, 1057, "N3.F3.S2*", "%\n", 3, 5, 0);
+    expect_count(desk, 2539, "N3.E2*", "%\n", 2, 2, 0);
+    expect_count(desk, 1057, "N3.D2*", "%\n", 2, 2, 0);
+
     static const uint8_t odd[] = {165, 10, 37};
     static const uint8_t unknown[] = {165, 10, 33};
     struct counted asked = {1057, text_slice(format), nothing, {odd, 3}};
@@ -330,24 +358,68 @@ static void test_edges(const struct desk *desk) {
 static void test_speeds(void) {
     expect("717", speed_of(3, 717), 0, 0, UINT64_C(17000000000));
     expect("046", speed_of(3, 46), 0, 0, 4600);
-    expect("000", speed_of(3, 0), 0, 0, 0);
+    expect("000, a rate of zero", speed_of(3, 0), 0, 0, 0);
     expect("99999", speed_of(5, 99999), 0, 0, UINT64_C(9999000000000));
     expect("100", speed_of(3, 100), 13, 0, 0);
     expect("1000 in three", speed_of(3, 1000), 21, 0, 0);
     expect("a code of no digits", speed_of(0, 0), 21, 0, 0);
+    expect("a code of one", speed_of(1, 0), 21, 0, 0);
     expect("a code of six", speed_of(6, 0), 21, 0, 0);
     expect("the greatest code", speed_of(UINT32_MAX, UINT64_MAX), 21, 0, 0);
+}
 
-    expect("152,500,000", code_of(4, 152500000), 0, 0, 5153);
-    expect("99,600,000", code_of(3, 99600000), 0, 0, 510);
-    expect("995", code_of(3, 995), 0, 0, 10);
-    expect("nothing", code_of(5, 0), 0, 0, 0);
-    expect("994", code_of(3, 994), 20, 0, 0);
-    expect("9,949,999,999,999", code_of(3, UINT64_C(9949999999999)), 0, 0, 999);
-    expect("9,950,000,000,000", code_of(3, UINT64_C(9950000000000)), 20, 0, 0);
-    expect("the greatest speed", code_of(5, UINT64_MAX), 20, 0, 0);
-    expect("two digits", code_of(2, 995), 21, 0, 0);
-    expect("the most digits", code_of(UINT32_MAX, 0), 21, 0, 0);
+static void test_codes(void) {
+    enum { RATE = CRUMBTRELLIS_RATE };
+    expect("152,500,000", code_of(4, RATE, 152500000), 0, 0, 5153);
+    expect("99,600,000", code_of(3, RATE, 99600000), 0, 0, 510);
+    expect("995", code_of(3, RATE, 995), 0, 0, 10);
+    expect("nothing", code_of(5, RATE, 0), 0, 0, 0);
+    expect("994", code_of(3, RATE, 994), 20, 0, 0);
+    expect("9,949,999,999,999", code_of(3, RATE, UINT64_C(9949999999999)), 0, 0, 999);
+    expect("9,950,000,000,000", code_of(3, RATE, UINT64_C(9950000000000)), 20, 0, 0);
+    expect("the greatest rate", code_of(5, RATE, UINT64_MAX), 20, 0, 0);
+    expect("one digit", code_of(1, RATE, 995), 21, 0, 0);
+    expect("the most digits", code_of(UINT32_MAX, RATE, 0), 21, 0, 0);
+    for (uint32_t digits = 3; digits <= 5; digits += 1) {
+        expect("a stop in three to five", code_of(digits, CRUMBTRELLIS_STOP, 0), 20, 0, 0);
+        expect("a rapid in three to five", code_of(digits, CRUMBTRELLIS_RAPID, 0), 20, 0, 0);
+    }
+}
+
+/* Neither kind nor units is written before a call, so that a success and a refusal have to write both. */
+static void test_two_digit_speeds(void) {
+    expect("46", speed_of(2, 46), 0, 0, UINT64_C(2000000000));
+    expect("01", speed_of(2, 1), 0, 0, 11200000);
+    expect("98", speed_of(2, 98), 0, 0, UINT64_C(800000000000));
+    expect_answer("00", speed_of(2, 0), (struct answer){0, 0, CRUMBTRELLIS_STOP, 0});
+    expect_answer("99", speed_of(2, 99), (struct answer){0, 0, CRUMBTRELLIS_RAPID, 0});
+    expect("100 in two", speed_of(2, 100), 21, 0, 0);
+    for (uint64_t code = 1; code <= 98; code += 1) {
+        struct answer speed = speed_of(2, code);
+        expect_true("a code of two digits is no rate's", speed.number == 0 && speed.kind == CRUMBTRELLIS_RATE);
+        expect("a code that comes back", code_of(2, CRUMBTRELLIS_RATE, speed.value), 0, 0, code);
+    }
+}
+
+static void test_two_digit_codes(void) {
+    enum { RATE = CRUMBTRELLIS_RATE, STOP = CRUMBTRELLIS_STOP, RAPID = CRUMBTRELLIS_RAPID };
+    expect("11,850,000", code_of(2, RATE, 11850000), 0, 0, 2);
+    expect("11,849,999", code_of(2, RATE, 11849999), 0, 0, 1);
+    expect("11,200,000", code_of(2, RATE, 11200000), 0, 0, 1);
+    expect("11,199,999", code_of(2, RATE, 11199999), 20, 0, 0);
+    expect("no rate in two", code_of(2, RATE, 0), 20, 0, 0);
+    expect("800,000,000,000", code_of(2, RATE, UINT64_C(800000000000)), 0, 0, 98);
+    expect("800,000,000,001", code_of(2, RATE, UINT64_C(800000000001)), 20, 0, 0);
+    expect("a stop", code_of(2, STOP, 0), 0, 0, 0);
+    expect("a rapid", code_of(2, RAPID, 0), 0, 0, 99);
+
+    expect("a stop with units", code_of(2, STOP, 1), 20, 0, 0);
+    expect("a rapid with units", code_of(2, RAPID, UINT64_MAX), 20, 0, 0);
+    expect("no kind", code_of(2, 3, 0), 20, 0, 0);
+    expect("no kind, with a rate's units", code_of(3, 3, 4600), 20, 0, 0);
+    expect("the greatest kind", code_of(2, UINT32_MAX, UINT64_MAX), 20, 0, 0);
+    expect("no kind in one digit", code_of(1, 3, 0), 21, 0, 0);
+    expect("a stop with units in six", code_of(6, STOP, 1), 21, 0, 0);
 }
 
 /* The byte that a lent buffer has at `at` before a call. */
@@ -384,6 +456,9 @@ static int selftest(void) {
     test_profiles(&desk);
     test_edges(&desk);
     test_speeds();
+    test_codes();
+    test_two_digit_speeds();
+    test_two_digit_codes();
     test_heads(desk.tape);
     say("door: ");
     say_number(tests - faults);
@@ -396,11 +471,11 @@ static int selftest(void) {
 /* ---- serving requests */
 
 /* A request is six numbers and, for a count, the bytes of the shorthand, of the profile and of the tape, whose
-   lengths are the last numbers before the repeats. The answer is four numbers and, for a head, the whole buffer.
+   lengths are the last numbers before the repeats. The answer is five numbers and, for a head, the whole buffer.
    Numbers are 8 bytes, lowest first. */
 enum { COUNT = 1, SPEED = 2, CODE = 3, HEAD = 4 };
 enum { OPERATION, FIRST, SECOND, THIRD, FOURTH, REPEATS, REQUEST };
-enum { NUMBER, PLACE, VALUE, NANOSECONDS, ANSWER };
+enum { NUMBER, PLACE, KIND, VALUE, NANOSECONDS, ANSWER };
 
 static uint8_t input[65536];
 static size_t input_at, input_end;
@@ -463,7 +538,7 @@ static uint64_t now(void) {
 
 /* Counts `repeats` times and keeps the shortest time. */
 static struct answer timed_count(struct counted counted, uint64_t repeats, uint64_t *shortest) {
-    struct answer answer = {0, 0, 0};
+    struct answer answer = unwritten;
     *shortest = UINT64_MAX;
     for (uint64_t run = 0; run < repeats; run += 1) {
         uint64_t start = now();
@@ -508,7 +583,7 @@ static struct answer serve_count(const struct service *service, const uint64_t *
 }
 
 static void put_answer(struct answer answer, uint64_t nanoseconds) {
-    uint64_t numbers[ANSWER] = {answer.number, answer.place, answer.value, nanoseconds};
+    uint64_t numbers[ANSWER] = {answer.number, answer.place, answer.kind, answer.value, nanoseconds};
     put(numbers, sizeof numbers);
 }
 
@@ -524,7 +599,7 @@ static void serve_one(const struct service *service, const uint64_t *request) {
         put_answer(speed_of((uint32_t)request[FIRST], request[SECOND]), 0);
         break;
     case CODE:
-        put_answer(code_of((uint32_t)request[FIRST], request[SECOND]), 0);
+        put_answer(code_of((uint32_t)request[FIRST], (uint32_t)request[SECOND], request[THIRD]), 0);
         break;
     case HEAD: {
         size_t length = (size_t)request[FIRST];
@@ -570,15 +645,6 @@ static struct counted take_tape(const char *profile) {
     }
     return (struct counted){edition, {text + shorthand, at - shorthand}, text_slice(profile),
                             {text + at + 1, length - at - 1}};
-}
-
-static void say_answer(struct answer answer) {
-    say("number ");
-    say_number(answer.number);
-    say(" place ");
-    say_number(answer.place);
-    say(" value ");
-    say_number(answer.value);
 }
 
 static int bench(const char *profile, uint64_t repeats) {

@@ -1,6 +1,6 @@
 //! The listing: what the listing program prints for what stands on its standard input.
 
-use crate::reading::{self, Block, Value};
+use crate::reading::{self, Block};
 use crate::shorthand::Format;
 use crate::specification::Specification;
 use crate::Refusal;
@@ -34,10 +34,7 @@ fn line(text: &mut String, digits: usize, block: &Block) {
     let skip = if block.opening.skip { '/' } else { '-' };
     let _ = write!(text, "{letter} {:0digits$} {skip}", block.opening.sequence);
     for &(letter, value) in &block.words {
-        let _ = match value {
-            Value::Dimension(number) => write!(text, " {}{number}", letter as char),
-            Value::Plain(number) | Value::Speed(number) => write!(text, " {}{number}", letter as char),
-        };
+        let _ = write!(text, " {}{value}", letter as char);
     }
     text.push('\n');
 }
@@ -94,6 +91,26 @@ mod tests {
         assert_eq!(list("1057 N3.X+42.E3.Y+42.F3.D4*\n"), "N 001 - X-250 E1500000000 F0 D153000000\nblocks 1\n");
         // D is a dimension already
         assert_eq!(list("2539 N3.X+42.E3.D+42.F3.D4*\n"), "refused 2 18\n");
+    }
+
+    #[test]
+    fn speeds_of_two_digits() {
+        let list = |header| listing(&input(header, "%\nN001F00S99\nN002F46\n"));
+        assert_eq!(list("2539 N3F2S2*\n"), "N 001 - Fstop Srapid\nN 002 - F2000000000\nblocks 2\n");
+        assert_eq!(list("2539 N3F3S2*\n"), "refused 11 9\n");
+        assert_eq!(listing(&input("1057 N3.F2.S2*\n", "")), "refused 3 2\n");
+    }
+
+    /// The samples beside this package, each under the profile beside it.
+    #[test]
+    fn the_samples() {
+        let folder = std::path::Path::new(env!("CARGO_MANIFEST_DIR")).join("../sample");
+        let read = |name: &str| std::fs::read(folder.join(name)).unwrap();
+        for (name, profile) in [("tape", ""), ("feeds", ""), ("tabs", "tabs.profile"), ("preferred", "")] {
+            let profile = if profile.is_empty() { Vec::new() } else { read(profile) };
+            let listed = super::listing(&read(name), profile.trim_ascii_end());
+            assert_eq!(listed.as_bytes(), read(&format!("{name}.listing")), "{name}");
+        }
     }
 
     #[test]

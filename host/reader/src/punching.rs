@@ -115,6 +115,7 @@ mod tests {
     use crate::reading;
     use crate::shorthand;
     use crate::specification::Specification;
+    use crate::speeds::Speed;
 
     const PLAIN: &str = "N3.G2.X+42.F3.M2*";
 
@@ -146,6 +147,10 @@ mod tests {
         }
     }
 
+    fn rate(units: u64) -> Value {
+        Value::Speed(Speed::Rate(units))
+    }
+
     fn one_word(text: &str, letter: u8, value: Value) -> Result<String, (u32, u64)> {
         answer(2539, text, &record(1, &[(letter, value)]))
     }
@@ -161,7 +166,7 @@ mod tests {
 
     #[test]
     fn the_example() {
-        let first = record(1, &[(b'G', Value::Plain(1)), (b'X', Value::Dimension(12_500)), (b'F', Value::Speed(1_500_000_000))]);
+        let first = record(1, &[(b'G', Value::Plain(1)), (b'X', Value::Dimension(12_500)), (b'F', rate(1_500_000_000))]);
         let mut second = record(2, &[(b'X', Value::Dimension(-250))]);
         second.opening.skip = true;
         assert_eq!(answer(1057, PLAIN, &first), Ok("N001\tG01\tX+012500\tF615\n".into()));
@@ -177,8 +182,8 @@ mod tests {
         assert_eq!(one_word("N3XD42*", b'X', Value::Dimension(0)), Ok("N001X+000000\n".into()));
         assert_eq!(one_word("N3X42*", b'X', Value::Dimension(0)), Ok("N001X000000\n".into()));
         assert_eq!(one_word("N3T9*", b'T', Value::Plain(7)), Ok("N001T000000007\n".into()));
-        assert_eq!(one_word("N3F3*", b'F', Value::Speed(0)), Ok("N001F000\n".into()));
-        assert_eq!(one_word("N3F3*", b'F', Value::Speed(4_600)), Ok("N001F046\n".into()));
+        assert_eq!(one_word("N3F3*", b'F', rate(0)), Ok("N001F000\n".into()));
+        assert_eq!(one_word("N3F3*", b'F', rate(4_600)), Ok("N001F046\n".into()));
         assert_eq!(answer(1057, PLAIN, &record(0, &[])), Ok("N000\n".into()));
         assert_eq!(answer(1057, PLAIN, &record(999, &[(b'M', Value::Plain(2))])), Ok("N999\t\t\t\tM02\n".into()));
     }
@@ -200,14 +205,14 @@ mod tests {
     fn greatest(item: &Item, dimension: i64) -> Value {
         match item.kind {
             Kind::Plain => Value::Plain(10u64.pow(item.most) - 1),
-            Kind::Speed => Value::Speed(9_999_000_000_000),
+            Kind::Speed => rate(9_999_000_000_000),
             Kind::Dimension { .. } => Value::Dimension(-dimension),
         }
     }
 
     #[test]
     fn words_that_are_no_item() {
-        let (g, x, f) = ((b'G', Value::Plain(1)), (b'X', Value::Dimension(1)), (b'F', Value::Speed(1_000)));
+        let (g, x, f) = ((b'G', Value::Plain(1)), (b'X', Value::Dimension(1)), (b'F', rate(1_000)));
         let wrong = |words: &[Word]| answer(1057, PLAIN, &record(1, words)).unwrap_err();
         assert_eq!(wrong(&[g, (b'Z', Value::Dimension(1))]), (16, 2));
         assert_eq!(wrong(&[x, g]), (16, 2));
@@ -247,23 +252,44 @@ mod tests {
 
     #[test]
     fn speeds_without_an_exact_code() {
-        for speed in [999, 1_550_000_000, 10_000_000_000_000, u64::MAX] {
-            assert_eq!(one_word("N3F3*", b'F', Value::Speed(speed)), Err((18, 1)));
+        for units in [999, 1_550_000_000, 10_000_000_000_000, u64::MAX] {
+            assert_eq!(one_word("N3F3*", b'F', rate(units)), Err((18, 1)));
         }
-        assert_eq!(one_word("N3F4*", b'F', Value::Speed(1_550_000_000)), Ok("N001F6155\n".into()));
+        assert_eq!(one_word("N3F4*", b'F', rate(1_550_000_000)), Ok("N001F6155\n".into()));
+    }
+
+    #[test]
+    fn speeds_of_two_digits() {
+        let (stop, rapid) = (Value::Speed(Speed::Stop), Value::Speed(Speed::Rapid));
+        assert_eq!(one_word("N3F2*", b'F', stop), Ok("N001F00\n".into()));
+        assert_eq!(one_word("N3S2*", b'S', rapid), Ok("N001S99\n".into()));
+        assert_eq!(one_word("N3F2*", b'F', rate(11_200_000)), Ok("N001F01\n".into()));
+        assert_eq!(one_word("N3F2*", b'F', rate(800_000_000_000)), Ok("N001F98\n".into()));
+        // a rate that is none of the table's has no exact code, however near it is
+        for units in [0, 11_199_999, 11_200_001, 11_850_000, 800_000_000_001, u64::MAX] {
+            assert_eq!(one_word("N3F2*", b'F', rate(units)), Err((18, 1)));
+        }
+        for text in ["N3F3*", "N3F4*", "N3F5*"] {
+            assert_eq!(one_word(text, b'F', stop), Err((18, 1)));
+            assert_eq!(one_word(text, b'F', rapid), Err((18, 1)));
+        }
+        // a kind that the item has not comes first
+        assert_eq!(one_word("N3F2*", b'F', Value::Plain(46)), Err((16, 1)));
+        assert_eq!(one_word("N3T2*", b'T', stop), Err((16, 1)));
+        assert_eq!(answer(1057, "N3.F2*", &record(1, &[(b'F', stop)])), Err((3, 2)));
     }
 
     #[test]
     fn words_of_e_and_d() {
         let text = "N3.X42.E3.D+12*";
-        let (e, d) = ((b'E', Value::Speed(1_500_000_000)), (b'D', Value::Dimension(7)));
+        let (e, d) = ((b'E', rate(1_500_000_000)), (b'D', Value::Dimension(7)));
         assert_eq!(answer(1057, text, &record(1, &[e, d])), Ok("N001\t\tE615\tD+007\n".into()));
         assert_eq!(answer(1057, text, &record(1, &[d, e])), Err((16, 2)));
         // the kind is the item's
         assert_eq!(answer(1057, text, &record(1, &[(b'E', Value::Dimension(7))])), Err((16, 1)));
-        assert_eq!(answer(1057, text, &record(1, &[e, (b'D', Value::Speed(4_600))])), Err((16, 2)));
-        assert_eq!(answer(1057, text, &record(1, &[(b'E', Value::Speed(1_550_000_000))])), Err((18, 1)));
-        assert_eq!(one_word("N3E42D3*", b'D', Value::Speed(0)), Ok("N001D000\n".into()));
+        assert_eq!(answer(1057, text, &record(1, &[e, (b'D', rate(4_600))])), Err((16, 2)));
+        assert_eq!(answer(1057, text, &record(1, &[(b'E', rate(1_550_000_000))])), Err((18, 1)));
+        assert_eq!(one_word("N3E42D3*", b'D', rate(0)), Ok("N001D000\n".into()));
     }
 
     #[test]
@@ -303,13 +329,13 @@ mod tests {
         // all digits, and a sign in every signed item
         assert_eq!(punched(&[x]), Ok("N001\t\t+000000\n".into()));
         assert_eq!(punched(&[g, (b'X', Value::Dimension(-5)), m]), Ok("N001\t01\t-000005\t\t\t02\n".into()));
-        let (y, f) = ((b'Y', Value::Dimension(500_000)), (b'F', Value::Speed(1_500_000_000)));
+        let (y, f) = ((b'Y', Value::Dimension(500_000)), (b'F', rate(1_500_000_000)));
         assert_eq!(punched(&[y, f]), Ok("N001\t\t\t500000\t615\n".into()));
         // the letter is the item's all the same
         assert_eq!(punched(&[x, g]), Err((16, 2)));
         assert_eq!(punched(&[(b'Z', Value::Dimension(0))]), Err((16, 1)));
         assert_eq!(punched(&[(b'Y', Value::Dimension(-1))]), Err((17, 1)));
-        assert_eq!(punched(&[g, (b'F', Value::Speed(999))]), Err((18, 2)));
+        assert_eq!(punched(&[g, (b'F', rate(999))]), Err((18, 2)));
         let mut buffer = [7; 8];
         assert_eq!(crate::punch_block(&specification, &record(1, &[m]), &mut buffer), Err(Refusal::new(19, 12)));
         assert_eq!(crate::punch_block(&specification, &record(1, &[g]), &mut buffer), Ok(8));

@@ -2,8 +2,9 @@
 
 use crate::rows::{self, CR, DEL, HT, LF, NUL};
 use crate::shorthand::{Dropped, Format, Item, Kind, Layout, Sign};
-use crate::speeds;
+use crate::speeds::{self, Speed};
 use crate::Refusal;
+use std::fmt;
 
 /// How a block begins.
 #[derive(Clone, Copy, Debug, PartialEq, Eq)]
@@ -23,8 +24,19 @@ pub enum Value {
     Dimension(i64),
     /// of G, M or T
     Plain(u64),
-    /// in ten-millionths
-    Speed(u64),
+    /// of F or S, or of a feed E or D
+    Speed(Speed),
+}
+
+/// In plain decimal; a stop and a rapid by their names.
+impl fmt::Display for Value {
+    fn fmt(&self, to: &mut fmt::Formatter<'_>) -> fmt::Result {
+        match self {
+            Value::Dimension(number) => write!(to, "{number}"),
+            Value::Plain(number) => write!(to, "{number}"),
+            Value::Speed(speed) => write!(to, "{speed}"),
+        }
+    }
 }
 
 /// What is told of a tape while it is read. On a refusal all that was told is void.
@@ -317,7 +329,7 @@ impl<'t> Reader<'t> {
         let dimension = |number: u64| if minus { -(number as i64) } else { number as i64 };
         Ok(match item.kind {
             Kind::Plain => Value::Plain(number),
-            Kind::Speed => Value::Speed(speeds::units(item.most, number).ok_or(Refusal::new(13, beginning))?),
+            Kind::Speed => Value::Speed(speeds::meaning(item.most, number).ok_or(Refusal::new(13, beginning))?),
             Kind::Dimension { dropped: Dropped::Trailing, .. } => {
                 Value::Dimension(dimension(number * 10u64.pow(item.most - count)))
             }
@@ -459,9 +471,28 @@ mod tests {
     }
 
     #[test]
+    fn speed_words_of_two_digits() {
+        let speed = |code| first_word("N3F2S2*", &format!("%\nN001S{code}\n"));
+        assert_eq!(speed("00"), Value::Speed(Speed::Stop));
+        assert_eq!(speed("99"), Value::Speed(Speed::Rapid));
+        assert_eq!(speed("46"), Value::Speed(Speed::Rate(2_000_000_000)));
+        // all zeros of three digits are a rate
+        assert_eq!(first_word("N3F3S2*", "%\nN001F000\n"), Value::Speed(Speed::Rate(0)));
+        // none of the hundred codes is barred
+        for code in 0..100 {
+            assert_eq!(answer(2539, "N3.F2*", &format!("%\nN001\tF{code:02}\n")), (0, 1));
+        }
+        assert_eq!(answer(2539, "N3.F2*", "%\nN001\tF+1\n"), (12, 8));
+        assert_eq!(answer(2539, "N3.F2*", "%\nN001\tF1\n"), (11, 9));
+        assert_eq!(answer(2539, "N3.F2*", "%\nN001\tF100\n"), (11, 10));
+        assert_eq!(answer(2539, "N3.F2*", "%\nN001\tF0"), (14, 9));
+        assert_eq!(answer(1057, "N3.F2*", "%\n"), (3, 2));
+    }
+
+    #[test]
     fn words_of_e_and_d() {
         // speeds by feeds, numbers by dimensions
-        assert_eq!(first_word("N3E3*", "%\nN001E717\n"), Value::Speed(17_000_000_000));
+        assert_eq!(first_word("N3E3*", "%\nN001E717\n"), Value::Speed(Speed::Rate(17_000_000_000)));
         assert_eq!(first_word("N3D12*", "%\nN001D717\n"), Value::Dimension(717));
         let feeds = "N3.X+42.E3.Y+42.F3.D4*";
         assert_eq!(answer(1057, feeds, "%\nN001\tX+012500\tE615\tY-000001\tF000\tD5153\n"), (0, 1));
@@ -530,8 +561,9 @@ mod tests {
     fn words_by_their_tabs() {
         let format = Specification::new(2539, "N3.G2.X+042.E3.ID420*", "LTM110B").format().unwrap();
         let mut blocks = Vec::new();
-        read(&format, &tape("%\nN001\t01\t-\05\t615\t-5\r\n:002\t\t(A\n)+000012\t000\n/N003\t\t0\n"), &mut blocks).unwrap();
-        let (g, x, e, i) = (Value::Plain(1), Value::Dimension, Value::Speed, Value::Dimension(-500_000));
+        read(&format, &tape("%\nN001\t01\t-\x005\t615\t-5\r\n:002\t\t(A\n)+000012\t000\n/N003\t\t0\n"), &mut blocks).unwrap();
+        let (g, x, i) = (Value::Plain(1), Value::Dimension, Value::Dimension(-500_000));
+        let e = |units| Value::Speed(Speed::Rate(units));
         let first = vec![(b'G', g), (b'X', x(-5)), (b'E', e(1_500_000_000)), (b'I', i)];
         let words: Vec<_> = blocks.into_iter().map(|block| block.words).collect();
         assert_eq!(words, [first, vec![(b'X', x(12)), (b'E', e(0))], vec![(b'X', x(0))]]);
@@ -586,5 +618,8 @@ mod tests {
         assert_eq!(by_tab("N001\t\t\t\t6051\n"), (11, 13));
         assert_eq!(by_tab("N001\t\t\t\t60\n"), (11, 12));
         assert_eq!(by_tab("N001\t\t\t\t000\n"), (0, 1));
+        let two_digits = |text: &str| judged(&Specification::new(2539, "N3.F2.S2*", "LTM000A"), text);
+        assert_eq!(two_digits("%\nN001\t00\t99\nN002\t\t10\n"), (0, 2));
+        assert_eq!(two_digits("%\nN001\t0\t99\n"), (11, 8));
     }
 }

@@ -268,6 +268,7 @@ fn item_of(edition: Edition, letter: u8, role: Role, data: &[u8]) -> Option<Item
         (Role::Plain, b'G' | b'M', b"2") => of_all(Kind::Plain, 2),
         (Role::Plain, b'T', &[digit @ b'1'..=b'9']) => of_all(Kind::Plain, value(digit)),
         (Role::Speed, _, &[digit @ b'3'..=b'5']) => of_all(Kind::Speed, value(digit)),
+        (Role::Speed, b'F' | b'S', b"2") if edition == Edition::Iso2539 => of_all(Kind::Speed, 2),
         (Role::Dimension, b'I' | b'J' | b'K', _) if edition == Edition::Iso1057 => None,
         (Role::Dimension, _, _) => dimension_of(edition, letter, data),
         _ => None,
@@ -422,6 +423,7 @@ mod tests {
         assert_eq!(item(1057, "N3.G2*"), made(b'G', Kind::Plain, Sign::Barred, 2, 2));
         assert_eq!(item(2539, "N3T9*"), made(b'T', Kind::Plain, Sign::Barred, 9, 9));
         assert_eq!(item(1057, "N3.S4*"), made(b'S', Kind::Speed, Sign::Barred, 4, 4));
+        assert_eq!(item(2539, "N3F2*"), made(b'F', Kind::Speed, Sign::Barred, 2, 2));
         assert_eq!(item(1057, "N3.E3*"), made(b'E', Kind::Speed, Sign::Barred, 3, 3));
         assert_eq!(item(2539, "N3D5*"), made(b'D', Kind::Speed, Sign::Barred, 5, 5));
         assert_eq!(item(1057, "N3.D53*"), made(b'D', dimension(Mark::Bare, 5, Dropped::None), Sign::Barred, 8, 8));
@@ -544,6 +546,33 @@ mod tests {
         assert_eq!(answer(1057, "N3E3*"), (3, 2));
         assert_eq!(answer(1057, "N3E2*"), (2, 2));
         assert_eq!(answer(1057, "N3.X42.F3.E042*"), (2, 9));
+    }
+
+    #[test]
+    fn speeds_of_two_digits() {
+        for (text, place) in [("N3.F2*", 2), ("N3.S2*", 2), ("N3.X42.E3.F2.S2*", 9), ("N3.F3.S2.M2*", 5), ("N3.G2.F2", 5)] {
+            // beyond 1057 whatever follows
+            assert_eq!(answer(1057, text), (3, place), "{text}");
+            let whole = text.ends_with('*');
+            assert_eq!(answer(2539, text), if whole { (0, 0) } else { (2, text.len() as u64) }, "{text}");
+        }
+        assert_eq!(answer(2539, "N3F2S2T2M2*"), (0, 0));
+        assert_eq!(answer(1057, "N3F2*"), (3, 2));
+        // F3 could be meant
+        assert_eq!(both("N3.F"), (2, 4));
+        // out of form in either edition: the other feeds, more digits, a mark; and then in the wrong place
+        for text in ["N3.E2*", "N3.D2*", "N3.F22*", "N3.S02*", "N3.F+2*", "N3.SD2"] {
+            assert_eq!(both(text), (2, 2), "{text}");
+        }
+        assert_eq!(both("N3.S3.F2*"), (2, 5));
+        assert_eq!(both("N3.F3.F2*"), (2, 5));
+        assert_eq!(both("N3.X42.F3.E2*"), (2, 9));
+        assert_eq!(answer(2539, "N3.X42.F2.Y42*"), (2, 9));
+        assert_eq!(answer(1057, "N3.X42.F2.Y42*"), (3, 6));
+        // E23 could be meant where a dimension is due
+        assert_eq!(both("N3.E2"), (2, 5));
+        assert_eq!(both("N3.E23*"), (0, 0));
+        assert_eq!(answer(2539, "N3.F2.E2"), (2, 5));
     }
 
     #[test]

@@ -49,6 +49,8 @@ fn class(newer: bool, item: &[u8]) -> Option<char> {
         [b'T', b'1'..=b'9'] => return Some('T'),
         [b'S', b'3'..=b'5'] => return Some('S'),
         [b'F', b'3'..=b'5'] => return Some('F'),
+        // F2 and S2 in 2539 only
+        [letter @ (b'F' | b'S'), b'2'] if newer => return Some(char::from(*letter)),
         [b'E' | b'D', b'3'..=b'5'] => return Some('f'),
         _ => {}
     }
@@ -196,6 +198,9 @@ fn short_texts() {
         "N3E42D3",
         "N3G2",
         "N3S3",
+        "N3.S",
+        "N3S2",
+        "N3.X42.F2",
         "N3.M2",
     ] {
         for end in &shorter {
@@ -216,8 +221,8 @@ fn short_texts() {
 /// At most three items as they may stand, whole or with a `*` or another item, a begun one too, behind them.
 #[test]
 fn short_successions() {
-    let items = ["G2", "X42", "Y42", "I42", "C42", "D42", "E42", "E3", "D4", "F5", "S3", "T2", "M2"];
-    let begun = ["E", "D", "E0", "D0", "E00", "D2", "E2*", "E+", "DD", "E+3", "F", "F2", "I", "C", "C00"];
+    let items = ["G2", "X42", "Y42", "I42", "C42", "D42", "E42", "E3", "D4", "F5", "F2", "S3", "S2", "T2", "M2"];
+    let begun = ["E", "D", "E0", "D0", "E00", "D2", "E2*", "E+", "DD", "E+3", "F", "S", "D2*", "I", "C", "C00"];
     let mut search = Search::new();
     let mut sound = 0;
     let mut standing: Vec<String> = vec!["N3".into()];

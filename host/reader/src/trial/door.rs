@@ -63,7 +63,7 @@ fn frame(frames: &mut Vec<u8>, ask: &Ask, repeats: u64) {
             [shorthand, profile, tape].iter().for_each(|slice| frames.extend_from_slice(slice));
         }
         Ask::Speed { digits, code } => put([2, u64::from(*digits), *code, 0, 0, 0]),
-        Ask::Code { digits, speed } => put([3, u64::from(*digits), *speed, 0, 0, 0]),
+        Ask::Code { digits, kind, units } => put([3, u64::from(*digits), u64::from(*kind), *units, 0, 0]),
         Ask::Head { length, first } => put([4, *length as u64, u64::from(*first), 0, 0, 0]),
     }
 }
@@ -73,11 +73,11 @@ fn served(answers: &mut impl Read, ask: &Ask) -> io::Result<Served> {
         let mut bytes = [0; 8];
         answers.read_exact(&mut bytes).map(|()| u64::from_le_bytes(bytes))
     };
-    let (refusal, place, value, nanoseconds) = (number()?, number()?, number()?, number()?);
+    let [refusal, place, kind, value, nanoseconds] = [number()?, number()?, number()?, number()?, number()?];
     let mut buffer = Vec::new();
     if let Ask::Head { length, .. } = ask {
         buffer.resize(*length, 0);
         answers.read_exact(&mut buffer)?;
     }
-    Ok(Served { answer: Answer { number: refusal, place, value, buffer }, nanoseconds })
+    Ok(Served { answer: Answer { number: refusal, place, kind, value, buffer }, nanoseconds })
 }

@@ -3,9 +3,10 @@
 use super::chance::Chance;
 use super::misplaced::{self, Slipped};
 use super::profiles::{self, General};
-use super::{damage, programs};
+use super::{damage, preferred, programs};
 use crate::rows::{punched, LF, MOST_ROWS};
 use crate::specification::Specification;
+use crate::speeds::Speed;
 use crate::{count_blocks, listing, punching, speeds, Refusal};
 use std::fmt;
 
@@ -30,8 +31,10 @@ pub enum Ask {
     Code {
         /// how many digits
         digits: u32,
-        /// the speed
-        speed: u64,
+        /// the speed's kind, or a number that is none's
+        kind: u32,
+        /// its units, which only a rate has
+        units: u64,
     },
     /// the head into a buffer
     Head {
@@ -42,14 +45,16 @@ pub enum Ask {
     },
 }
 
-/// What a call answers: number, place, value, and the lent buffer after it.
+/// What a call answers: number, place, kind and value, and the lent buffer after it.
 #[derive(Clone, Debug, PartialEq, Eq)]
 pub struct Answer {
     /// 0 or a refusal
     pub number: u64,
     /// 0 or the refusal's place
     pub place: u64,
-    /// 0 where refused
+    /// of a speed; 0 where refused, and for all other values
+    pub kind: u64,
+    /// 0 where refused; a speed's units
     pub value: u64,
     /// the whole buffer of a head
     pub buffer: Vec<u8>,
@@ -68,13 +73,49 @@ pub fn lent(length: usize, first: u8) -> Vec<u8> {
     (0..length).map(|at| first.wrapping_add(at as u8)).collect()
 }
 
+/// The kinds of speeds by their numbers in include/crumbtrellis.h.
+const RATE: u32 = 0;
+const STOP: u32 = 1;
+const RAPID: u32 = 2;
+
+/// The speed that C hands over by these numbers; none where they are no speed's.
+pub(super) fn handed_speed(kind: u32, units: u64) -> Option<Speed> {
+    match (kind, units) {
+        (RATE, _) => Some(Speed::Rate(units)),
+        (STOP, 0) => Some(Speed::Stop),
+        (RAPID, 0) => Some(Speed::Rapid),
+        _ => None,
+    }
+}
+
+/// The code of what C hands over: what is no speed can't be coded either.
+fn handed_code(digits: u32, kind: u32, units: u64) -> Result<u64, Refusal> {
+    speeds::judge_length(digits)?;
+    let speed = handed_speed(kind, units).ok_or(Refusal::new(20, 0))?;
+    speeds::code_of(digits, speed)
+}
+
 impl Answer {
+    /// Any other value than a speed.
     fn of(result: Result<u64, Refusal>) -> Answer {
-        let (number, place, value) = match result {
-            Ok(value) => (0, 0, value),
-            Err(refusal) => (u64::from(refusal.number), refusal.place, 0),
+        Answer::told(result.map(|value| (RATE, value)))
+    }
+
+    fn of_speed(result: Result<Speed, Refusal>) -> Answer {
+        Answer::told(result.map(|speed| match speed {
+            Speed::Rate(units) => (RATE, units),
+            Speed::Stop => (STOP, 0),
+            Speed::Rapid => (RAPID, 0),
+        }))
+    }
+
+    /// A kind and a value, or a refusal.
+    fn told(result: Result<(u32, u64), Refusal>) -> Answer {
+        let (number, place, (kind, value)) = match result {
+            Ok(told) => (0, 0, told),
+            Err(refusal) => (u64::from(refusal.number), refusal.place, (0, 0)),
         };
-        Answer { number, place, value, buffer: Vec::new() }
+        Answer { number, place, kind: u64::from(kind), value, buffer: Vec::new() }
     }
 }
 
@@ -83,8 +124,8 @@ impl Ask {
     pub fn answer(&self) -> Answer {
         match self {
             Ask::Count { specification, tape } => Answer::of(count_blocks(specification, tape)),
-            Ask::Speed { digits, code } => Answer::of(speeds::speed_of(*digits, *code)),
-            Ask::Code { digits, speed } => Answer::of(speeds::code_of(*digits, *speed)),
+            Ask::Speed { digits, code } => Answer::of_speed(speeds::speed_of(*digits, *code)),
+            Ask::Code { digits, kind, units } => Answer::of(handed_code(*digits, *kind, *units)),
             Ask::Head { length, first } => {
                 let mut buffer = lent(*length, *first);
                 let result = punching::punch_head(&mut buffer);
@@ -359,6 +400,8 @@ pub const SHORTHAND_STARTS: &[(&[u8], &[&str])] = &[
     ),
     // feeds behind an axis, behind N and behind each other
     (b".EDYFG+0234*", &["N3.X42.E3", "N3.X42.E3.D", "N3X42D3", "N3.D"]),
+    // speeds of two digits
+    (b".EFSTD+0235*", &["N3.", "N3F2", "N3.X42.F2", "N3S"]),
 ];
 
 /// Every shorthand of `start` and at most four of those bytes, by both editions.
@@ -425,6 +468,16 @@ pub const TAPE_STARTS: &[(&[u8], &[TapeStart])] = &[
             (2539, "N3*", "LTM000B", "%\nN001"),
         ],
     ),
+    // speeds of two digits
+    (
+        b"\0\t\n\r019+FS",
+        &[
+            (2539, "N3.F2.S3*", "", "%\nN001\tF"),
+            (2539, "N3.F2.S3*", "LTM000A", "%\nN001\t"),
+            (2539, "N3F2S2*", "", "%\nN001F0"),
+            (2539, "N3F2S2*", "", "%\nN001F99S"),
+        ],
+    ),
 ];
 
 /// An edition, a format, a profile and the beginning of a tape.
@@ -460,7 +513,8 @@ pub(crate) fn texts(bytes: &[u8], most: usize) -> Vec<Vec<u8>> {
 pub fn numbers(seed: u64, size: usize) -> Vec<Input> {
     let chance = &mut Chance::new(seed);
     let mut inputs: Vec<Input> = (0..=64).map(|length| Input::of(Ask::Head { length, first: 90 })).collect();
-    let lengths = [0, 1, 2, 3, 4, 5, 6, 7, 1 << 31, u32::MAX, (1 << 16) + 3];
+    inputs.extend(preferred_numbers());
+    let lengths = [0, 1, 2, 3, 4, 5, 6, 7, 1 << 31, u32::MAX, (1 << 16) + 2, (1 << 16) + 3];
     let mut edges = vec![u64::MAX, u64::MAX - 1, 1 << 63, 1 << 32];
     for power in 0..20 {
         let ten = 10u64.pow(power);
@@ -469,20 +523,41 @@ pub fn numbers(seed: u64, size: usize) -> Vec<Input> {
             edges.extend(scaled.into_iter().flat_map(|n| [n.saturating_sub(1), n, n.saturating_add(1)]));
         }
     }
+    let preferred: Vec<u64> = preferred::edges().into_iter().map(|(units, _)| units).collect();
     for &digits in &lengths {
-        inputs.extend(edges.iter().map(|&speed| Input::of(Ask::Code { digits, speed })));
-        inputs.extend(edges.iter().map(|&code| Input::of(Ask::Speed { digits, code })));
+        inputs.extend(edges.iter().chain(&preferred).map(|&units| Input::of(Ask::Code { digits, kind: RATE, units })));
+        inputs.extend(edges.iter().copied().chain(0..=101).map(|code| Input::of(Ask::Speed { digits, code })));
+        for &kind in KINDS {
+            inputs.extend([0, 1, 99, 11_200_000, u64::MAX].map(|units| Input::of(Ask::Code { digits, kind, units })));
+        }
     }
     inputs.extend((0..size).map(|_| Input::of(random_number(chance))));
     inputs
 }
 
+/// The kinds of speeds, and numbers that are none's.
+const KINDS: &[u32] = &[RATE, STOP, RAPID, 3, 4, 1 << 8, (1 << 16) + STOP, 1 << 31, u32::MAX];
+
+/// The hundred codes and one more, and their speeds, with what they must answer.
+fn preferred_numbers() -> Vec<Input> {
+    let code =
+        |kind, units, known: Option<u64>| Input::of(Ask::Code { digits: 2, kind, units }).known(known.ok_or(Refusal::new(20, 0)));
+    let mut inputs = vec![code(STOP, 0, Some(0)), code(RAPID, 0, Some(99))];
+    inputs.extend(preferred::edges().into_iter().map(|(units, known)| code(RATE, units, known)));
+    for number in 0..=100 {
+        let known = if number < 100 { Ok(preferred::speed(number)) } else { Err(Refusal::new(21, 0)) };
+        inputs.push(Input { ask: Ask::Speed { digits: 2, code: number }, known: Some(Answer::of_speed(known)) });
+    }
+    inputs
+}
+
 fn random_number(chance: &mut Chance) -> Ask {
-    let digits = 3 + chance.below(3) as u32;
-    let bits = chance.below(64);
+    let digits = 2 + chance.below(4) as u32;
+    let units = chance.number() >> chance.below(64);
     match chance.below(8) {
         0 => Ask::Head { length: room(chance), first: chance.below(256) as u8 },
-        1..=3 => Ask::Code { digits, speed: chance.number() >> bits },
+        1 => Ask::Code { digits, kind: chance.one_of(KINDS), units: chance.one_of(&[0, 0, units]) },
+        2..=4 => Ask::Code { digits, kind: RATE, units },
         _ => Ask::Speed { digits, code: chance.number() % 10u64.pow(digits) },
     }
 }
@@ -579,7 +654,7 @@ fn long_listing(chance: &mut Chance) -> Listed {
 
 impl fmt::Display for Answer {
     fn fmt(&self, to: &mut fmt::Formatter<'_>) -> fmt::Result {
-        write!(to, "number {} place {} value {}", self.number, self.place, self.value)?;
+        write!(to, "number {} place {} kind {} value {}", self.number, self.place, self.kind, self.value)?;
         if !self.buffer.is_empty() {
             write!(to, " buffer {:?}", self.buffer)?;
         }
@@ -598,7 +673,7 @@ impl fmt::Display for Ask {
                 write!(to, "tape in hex: {}", hex(tape))
             }
             Ask::Speed { digits, code } => write!(to, "the speed of code {code} in {digits} digits"),
-            Ask::Code { digits, speed } => write!(to, "the code of {speed} units in {digits} digits"),
+            Ask::Code { digits, kind, units } => write!(to, "the code of kind {kind} and {units} units in {digits} digits"),
             Ask::Head { length, first } => write!(to, "the head into {length} rows, {first} and on"),
         }
     }
@@ -642,20 +717,61 @@ pub fn hex(tape: &[u8]) -> String {
 mod tests {
     use super::*;
 
+    /// What is no speed can't be coded, but the length is judged before it.
+    #[test]
+    fn speeds_from_c() {
+        let code = |digits, kind, units| {
+            let Answer { number, place, kind, value, .. } = Ask::Code { digits, kind, units }.answer();
+            assert_eq!((place, kind), (0, 0));
+            (number, value)
+        };
+        assert_eq!(code(2, STOP, 0), (0, 0));
+        assert_eq!(code(2, RAPID, 0), (0, 99));
+        assert_eq!(code(2, RATE, 2_000_000_000), (0, 46));
+        assert_eq!(code(3, RATE, 0), (0, 0));
+        for (kind, units) in [(STOP, 1), (RAPID, u64::MAX), (3, 0), (3, 2_000_000_000), (u32::MAX, 0)] {
+            assert_eq!([1, 2, 3, 6].map(|digits| code(digits, kind, units)), [(21, 0), (20, 0), (20, 0), (21, 0)]);
+        }
+        let speed = |digits, code| {
+            let Answer { number, kind, value, .. } = Ask::Speed { digits, code }.answer();
+            (number, kind, value)
+        };
+        assert_eq!(speed(2, 0), (0, 1, 0));
+        assert_eq!(speed(2, 99), (0, 2, 0));
+        assert_eq!(speed(2, 46), (0, 0, 2_000_000_000));
+        assert_eq!(speed(2, 100), (21, 0, 0));
+        assert_eq!(speed(3, 0), (0, 0, 0));
+    }
+
+    #[test]
+    fn numbers_are_answered_as_they_were_made() {
+        let inputs = numbers(9, 10_000);
+        let known = inputs.iter().filter_map(|input| Some((input, input.known.as_ref()?)));
+        assert!(known.clone().count() > 600);
+        for (input, known) in known {
+            assert_eq!(input.ask.answer(), *known, "{}", input.ask);
+        }
+        for number in [0, 13, 19, 20, 21] {
+            assert!(answered(&inputs, number) > 200, "{number}");
+        }
+    }
+
     /// How many of `inputs` succeed, or are refused with `number`.
     fn answered(inputs: &[Input], number: u64) -> usize {
         inputs.iter().filter(|input| input.ask.answer().number == number).count()
     }
 
-    /// What is tried exhaustively tries something: each beginning of feeds has sound and unsound ends.
+    /// What is tried exhaustively tries something: each beginning of feeds and of two-digit speeds has sound and unsound ends.
     #[test]
     fn beginnings_of_feeds() {
-        let (bytes, starts) = SHORTHAND_STARTS[1];
-        let (characters, tapes) = TAPE_STARTS[1];
-        let shorthands = starts.iter().map(|start| short_shorthands(bytes, start));
-        for inputs in shorthands.chain(tapes.iter().map(|start| short_tapes(characters, start))) {
-            let sound = answered(&inputs, 0);
-            assert!((10..inputs.len() / 2).contains(&sound), "{sound} of {}", inputs.len());
+        for (shorthands, tapes) in [(1, 1), (2, 3)] {
+            let (bytes, starts) = SHORTHAND_STARTS[shorthands];
+            let (characters, tapes) = TAPE_STARTS[tapes];
+            let shorthands = starts.iter().map(|start| short_shorthands(bytes, start));
+            for inputs in shorthands.chain(tapes.iter().map(|start| short_tapes(characters, start))) {
+                let sound = answered(&inputs, 0);
+                assert!((10..inputs.len() / 2).contains(&sound), "{sound} of {}", inputs.len());
+            }
         }
         for (edition, shorthand, profile, _) in TAPE_STARTS.iter().flat_map(|(_, starts)| *starts) {
             assert!(Specification::new(*edition, shorthand, profile).format().is_ok(), "{shorthand} {profile}");

@@ -1,17 +1,18 @@
 //! Asking the library by lines of text, as crates/vectors/LINES.md has them, and what the reader answers.
 
 use super::chance::Chance;
-use super::inputs::{self, bad_text, either_edition, lent, strange_edition, Answer, Ask, Input};
+use super::inputs::{self, bad_text, either_edition, lent, strange_edition, Ask, Input};
 use super::misplaced::{self, Slipped};
 use super::profiles;
 use super::programs;
 use super::records::{self, Handed};
-use crate::punching::{Record, Word, CLEARED};
+use crate::punching::{punch_head, Record, Word, CLEARED};
 use crate::reading::{block_rows, read_block, Block, Opening, Value};
 use crate::rows::{punched, CR, DEL, HT, LF, NUL};
 use crate::shorthand::{parse, Dropped, Format, Item, Kind, Layout, Mark};
 use crate::specification::Specification;
-use crate::{punch_block, Refusal};
+use crate::speeds::{code_of, exact_code, speed_of, Speed};
+use crate::{count_blocks, punch_block, Refusal};
 use std::fmt;
 
 /// A longer line is not asked.
@@ -19,8 +20,41 @@ const MOST_BYTES: usize = 60_000;
 
 /// One line.
 pub enum Line {
-    /// B, S, C or H: what the C host is asked too
-    Call(Ask),
+    /// B: how many blocks
+    Count {
+        /// what the tape is judged by
+        specification: Specification,
+        /// its rows
+        tape: Vec<u8>,
+    },
+    /// S: a code's speed
+    Speed {
+        /// how many digits it has
+        digits: u32,
+        /// the code
+        code: u64,
+    },
+    /// C: a speed's code
+    Code {
+        /// how many digits it has
+        digits: u32,
+        /// the speed
+        speed: Speed,
+    },
+    /// X: a speed's exact code
+    ExactCode {
+        /// how many digits it has
+        digits: u32,
+        /// the speed
+        speed: Speed,
+    },
+    /// H: the head into a buffer
+    Head {
+        /// how many rows it has
+        room: usize,
+        /// its first row before the call
+        first: u8,
+    },
     /// F: a shorthand's Format
     Format {
         /// its edition
@@ -66,14 +100,26 @@ pub struct Reply {
     pub number: u64,
     /// 0 or the refusal's place
     pub place: u64,
-    /// what is handed back, on a refusal too
-    handed: String,
+    /// what is written behind the arrow: number and place, but for X, and what is handed back, on a refusal too
+    written: String,
+}
+
+impl Reply {
+    fn new(number: u64, place: u64, handed: &str) -> Reply {
+        Reply { number, place, written: format!("{number} {place} {handed}") }
+    }
+
+    /// The code where there is one. Where there is none, a record is refused with 18.
+    fn exact(code: Option<u64>) -> Reply {
+        let number = if code.is_some() { 0 } else { 18 };
+        Reply { number, place: 0, written: code.map_or(String::new(), |code| code.to_string()) }
+    }
 }
 
 impl fmt::Display for Reply {
     fn fmt(&self, to: &mut fmt::Formatter<'_>) -> fmt::Result {
         // where the last part is empty, its space is left out too
-        to.write_str(format!("{} {} {}", self.number, self.place, self.handed).trim_end_matches(' '))
+        to.write_str(format!(" -> {}", self.written).trim_end_matches(' '))
     }
 }
 
@@ -81,10 +127,11 @@ impl Line {
     /// The line as it is asked.
     pub fn text(&self) -> Vec<u8> {
         match self {
-            Line::Call(Ask::Count { specification, tape }) => judged('B', specification, &asked(tape)),
-            Line::Call(Ask::Speed { digits, code }) => format!("S {digits} {code}").into_bytes(),
-            Line::Call(Ask::Code { digits, speed }) => format!("C {digits} {speed}").into_bytes(),
-            Line::Call(Ask::Head { length, first }) => format!("H {length} {first}").into_bytes(),
+            Line::Count { specification, tape } => judged('B', specification, &asked(tape)),
+            Line::Speed { digits, code } => format!("S {digits} {code}").into_bytes(),
+            Line::Code { digits, speed } => format!("C {digits} {speed}").into_bytes(),
+            Line::ExactCode { digits, speed } => format!("X {digits} {speed}").into_bytes(),
+            Line::Head { room, first } => format!("H {room} {first}").into_bytes(),
             Line::Format { edition, shorthand } => [format!("F {edition} ").as_bytes(), shorthand].concat(),
             Line::Agreed(Specification { edition, shorthand, profile }) => {
                 [format!("G {edition} ").as_bytes(), shorthand, b"|", profile, b"|"].concat()
@@ -103,7 +150,15 @@ impl Line {
     /// The reader's answer.
     fn answer(&self) -> Option<Reply> {
         Some(match self {
-            Line::Call(ask) => called(ask),
+            Line::Count { specification, tape } => handed_back(count_blocks(specification, tape), 0, |count| count.to_string()),
+            // a refusal hands back a rate of zero
+            Line::Speed { digits, code } => handed_back(speed_of(*digits, *code), Speed::Rate(0), |speed| speed.to_string()),
+            Line::Code { digits, speed } => handed_back(code_of(*digits, *speed), 0, |code| code.to_string()),
+            Line::ExactCode { digits, speed } => Reply::exact(exact_code(*digits, *speed)),
+            Line::Head { room, first } => {
+                let mut buffer = lent(*room, *first);
+                handed_back(punch_head(&mut buffer), 0, |count| buffer_text(count, &buffer))
+            }
             Line::Format { edition, shorthand } => formed(*edition, parse(*edition, shorthand)),
             Line::Agreed(specification) => formed(specification.edition, specification.format()),
             Line::Block(Nth { specification, n, tape }) => {
@@ -148,24 +203,18 @@ impl Posed {
 pub fn answered(text: &[u8], reply: Option<&Reply>) -> Vec<u8> {
     let mut line = text.to_vec();
     if let Some(reply) = reply {
-        line.extend(format!(" -> {reply}").bytes());
+        line.extend(reply.to_string().bytes());
     }
     line
-}
-
-fn called(ask: &Ask) -> Reply {
-    let Answer { number, place, value, buffer } = ask.answer();
-    let handed = if matches!(ask, Ask::Head { .. }) { buffer_text(value, &buffer) } else { value.to_string() };
-    Reply { number, place, handed }
 }
 
 /// The reply of `result`, with `none` handed back where it is refused.
 fn handed_back<T>(result: Result<T, Refusal>, none: T, text: impl Fn(T) -> String) -> Reply {
     match result {
-        Ok(value) => Reply { number: 0, place: 0, handed: text(value) },
+        Ok(value) => Reply::new(0, 0, &text(value)),
         Err(refusal) => {
             let (number, place) = told(refusal);
-            Reply { number, place, handed: text(none) }
+            Reply::new(number, place, &text(none))
         }
     }
 }
@@ -238,11 +287,12 @@ fn record_text(record: &Record) -> String {
 
 fn word_text((letter, value): Word) -> String {
     let letter = if letter.is_ascii_uppercase() { char::from(letter).to_string() } else { format!("#{letter}") };
-    match value {
-        Value::Plain(number) => format!("{letter}N{number}"),
-        Value::Speed(speed) => format!("{letter}S{speed}"),
-        Value::Dimension(number) => format!("{letter}D{number}"),
-    }
+    let kind = match value {
+        Value::Plain(_) => 'N',
+        Value::Speed(_) => 'S',
+        Value::Dimension(_) => 'D',
+    };
+    format!("{letter}{kind}{value}")
 }
 
 fn format_text(edition: u32, format: &Format) -> String {
@@ -310,12 +360,10 @@ pub fn tapes(seed: u64, size: usize) -> Vec<Posed> {
 }
 
 fn tape(chance: &mut Chance, input: Input) -> Vec<Posed> {
-    let Ask::Count { mut specification, tape } = input.ask else {
-        return vec![Posed::of(Line::Call(input.ask))];
-    };
+    let Ask::Count { mut specification, tape } = input.ask else { return Vec::new() };
     make_sayable(&mut specification);
     let mut nth = || Nth { specification: specification.clone(), n: some_block(chance), tape: tape.clone() };
-    let mut lines = vec![Line::Block(nth()), Line::Rows(nth()), Line::Call(Ask::Count { specification, tape })];
+    let mut lines = vec![Line::Block(nth()), Line::Rows(nth()), Line::Count { specification, tape }];
     if input.known.is_none_or(|known| known.number != 0) {
         lines = vec![lines.swap_remove(chance.below(3))];
     }
@@ -391,27 +439,43 @@ fn agreement(chance: &mut Chance) -> Posed {
 
 /// Codes, speeds and heads: all edges, and `size` random ones.
 pub fn numbers(seed: u64, size: usize) -> Vec<Posed> {
-    inputs::numbers(seed, size).into_iter().map(|input| Posed::of(Line::Call(input.ask))).collect()
+    inputs::numbers(seed, size).into_iter().flat_map(number).collect()
 }
 
-/// Lines that ask nothing, bars at their edges, and tapes whose lines are as long as may be, or one byte longer.
+/// A speed's code is asked for twice: for the one that it is rounded to, and for the exact one.
+fn number(Input { ask, known }: Input) -> Vec<Posed> {
+    let known = known.map(|known| (known.number, known.place));
+    let posed = |line| Posed { line, known };
+    match ask {
+        Ask::Count { specification, tape } => vec![posed(Line::Count { specification, tape })],
+        Ask::Speed { digits, code } => vec![posed(Line::Speed { digits, code })],
+        Ask::Head { length, first } => vec![posed(Line::Head { room: length, first })],
+        Ask::Code { digits, kind, units } => match inputs::handed_speed(kind, units) {
+            Some(speed) => vec![posed(Line::Code { digits, speed }), Posed::of(Line::ExactCode { digits, speed })],
+            // what is no speed can't be said in a line
+            None => Vec::new(),
+        },
+    }
+}
+
+/// Lines that ask nothing, bars and speeds at their edges, and tapes whose lines are as long as may be, or one byte longer.
 pub fn edges() -> Vec<Posed> {
     let remarks = ["", "#", "# a remark", " B 1057 N3* %~", "b 1057 N3* %~", "BB 1057 N3* %~", "B1057 N3* %~", "1 2", "~"];
     let mut lines: Vec<Line> = remarks.iter().map(|text| Line::Remark(text.as_bytes().to_vec())).collect();
     for bytes in [MOST_BYTES - 1, MOST_BYTES, MOST_BYTES + 1, 2 * MOST_BYTES, 5 * MOST_BYTES] {
         let mut tape = vec![punched(b'%'), punched(LF)];
         tape.resize(bytes - "B 1057 N3* ".len(), NUL);
-        lines.push(Line::Call(Ask::Count { specification: Specification::new(1057, "N3*", ""), tape }));
+        lines.push(Line::Count { specification: Specification::new(1057, "N3*", ""), tape });
     }
     lines.extend(bars());
+    lines.extend(spelt_speeds());
     lines.into_iter().map(Posed::of).collect()
 }
 
 /// No profile between two bars, or without any, and a profile that the line's end ends.
 fn bars() -> Vec<Line> {
     let under = |profile| Specification::new(2539, "N3.X42*", profile);
-    let count = |profile, tape| Line::Call(Ask::Count { specification: under(profile), tape });
-    let spelt = |text, line| Line::Spelt(text, Box::new(line));
+    let count = |profile, tape| Line::Count { specification: under(profile), tape };
     vec![
         spelt("G 2539 N3.X42*", Line::Agreed(under(""))),
         spelt("G 2539 N3.X42*|", Line::Agreed(under(""))),
@@ -419,6 +483,34 @@ fn bars() -> Vec<Line> {
         spelt("B 2539 N3.X42*|| %~", count("", vec![punched(b'%'), punched(LF)])),
         spelt("B 2539 N3.X42*|LTM 111 A", count("LTM 111 A", Vec::new())),
         spelt("B 2539 N3.X42*|LTM 111 A|", count("LTM 111 A", Vec::new())),
+    ]
+}
+
+fn spelt(text: &'static str, line: Line) -> Line {
+    Line::Spelt(text, Box::new(line))
+}
+
+/// The first letter says stop or rapid, and all else is a number.
+fn spelt_speeds() -> Vec<Line> {
+    let code = |speed| Line::Code { digits: 2, speed };
+    let exact = |speed| Line::ExactCode { digits: 2, speed };
+    let punched = |speed| {
+        let opening = Opening { skip: false, alignment: false, sequence: 1 };
+        let record = Record::from(&Block { opening, words: vec![(b'F', Value::Speed(speed))] });
+        Line::Punch(Box::new(Handed { specification: Specification::new(2539, "N3F2*", ""), room: 8, first: 0, record }))
+    };
+    vec![
+        spelt("C 2 s", code(Speed::Stop)),
+        spelt("C 2 r9", code(Speed::Rapid)),
+        spelt("C 2 Stop", code(Speed::Rate(0))),
+        spelt("C 2", code(Speed::Rate(0))),
+        spelt("X 2 stopped", exact(Speed::Stop)),
+        spelt("X 2 rest", exact(Speed::Rapid)),
+        spelt("X 2 11200000s", exact(Speed::Rate(11_200_000))),
+        spelt("J 2539 N3F2* 8 0 - N 1 1 FSs", punched(Speed::Stop)),
+        spelt("J 2539 N3F2* 8 0 - N 1 1 FSr99", punched(Speed::Rapid)),
+        spelt("J 2539 N3F2* 8 0 - N 1 1 FS11200000r", punched(Speed::Rate(11_200_000))),
+        spelt("J 2539 N3F2* 8 0 - N 1 1 FS", punched(Speed::Rate(0))),
     ]
 }
 
@@ -458,8 +550,8 @@ mod tests {
     fn blocks_of_the_sample() {
         let spelt = "%~N001^G01^X+012500^F615~/N002^^X-000250~";
         let asked = |letter: char, n: &str| format!("{letter} 1057 {PLAIN}{n} {spelt} -> ");
-        let count = Ask::Count { specification: Specification::new(1057, PLAIN, ""), tape: rows(SAMPLE) };
-        assert_eq!(written(Line::Call(count)), asked('B', "") + "0 0 2");
+        let count = Line::Count { specification: Specification::new(1057, PLAIN, ""), tape: rows(SAMPLE) };
+        assert_eq!(written(count), asked('B', "") + "0 0 2");
         assert_eq!(written(Line::Block(nth(0))), asked('W', " 0") + "0 0 - N 1 3 GN1 XD12500 FS1500000000");
         assert_eq!(written(Line::Block(nth(1))), asked('W', " 1") + "0 0 / N 2 1 XD-250");
         assert_eq!(written(Line::Block(nth(2))), asked('W', " 2") + "15 2 - N 0 0");
@@ -497,8 +589,8 @@ mod tests {
         let specification = Specification::new(2539, "N3.G2.X+042*", "LTM110A");
         let tape = rows("%\nN001\t01\t5\n");
         let asked = "2539 N3.G2.X+042*|LTM110A|";
-        let count = Ask::Count { specification: specification.clone(), tape: tape.clone() };
-        assert_eq!(written(Line::Call(count)), format!("B {asked} %~N001^01^5~ -> 0 0 1"));
+        let count = Line::Count { specification: specification.clone(), tape: tape.clone() };
+        assert_eq!(written(count), format!("B {asked} %~N001^01^5~ -> 0 0 1"));
         let nth = Nth { specification: specification.clone(), n: 0, tape };
         assert_eq!(written(Line::Block(nth)), format!("W {asked} 0 %~N001^01^5~ -> 0 0 - N 1 2 GN1 XD5"));
         let opening = Opening { skip: false, alignment: false, sequence: 2 };
@@ -517,7 +609,8 @@ mod tests {
         assert_eq!(written(punching(1, 1_000, &[])), asked(1, "1000 0 -> 17 0 0 \\254"));
         assert_eq!(written(punching(1, 1, &[x, g])), asked(1, "1 2 XD-250 GN1 -> 16 2 0 \\254"));
         assert_eq!(written(punching(1, 1, &[CLEARED])), asked(1, "1 1 #0N0 -> 16 1 0 \\254"));
-        assert_eq!(written(punching(1, 1, &[(b'F', Value::Speed(999))])), asked(1, "1 1 FS999 -> 18 1 0 \\254"));
+        assert_eq!(written(punching(1, 1, &[(b'F', Value::Speed(Speed::Rate(999)))])), asked(1, "1 1 FS999 -> 18 1 0 \\254"));
+        assert_eq!(written(punching(1, 1, &[(b'F', Value::Speed(Speed::Stop))])), asked(1, "1 1 FSstop -> 18 1 0 \\254"));
     }
 
     #[test]
@@ -532,12 +625,35 @@ mod tests {
 
     #[test]
     fn numbers_and_heads() {
-        assert_eq!(written(Line::Call(Ask::Speed { digits: 3, code: 717 })), "S 3 717 -> 0 0 17000000000");
-        assert_eq!(written(Line::Call(Ask::Speed { digits: 3, code: 100 })), "S 3 100 -> 13 0 0");
-        assert_eq!(written(Line::Call(Ask::Code { digits: 4, speed: 152_500_000 })), "C 4 152500000 -> 0 0 5153");
-        assert_eq!(written(Line::Call(Ask::Head { length: 4, first: 9 })), "H 4 9 -> 0 0 2 %~\\011\\012");
-        assert_eq!(written(Line::Call(Ask::Head { length: 1, first: 9 })), "H 1 9 -> 19 2 0 ^");
-        assert_eq!(written(Line::Call(Ask::Head { length: 0, first: 9 })), "H 0 9 -> 19 2 0");
+        let speed = |digits, code| written(Line::Speed { digits, code });
+        let code = |digits, speed| written(Line::Code { digits, speed });
+        let exact = |digits, speed| written(Line::ExactCode { digits, speed });
+        assert_eq!(speed(3, 717), "S 3 717 -> 0 0 17000000000");
+        assert_eq!(speed(3, 100), "S 3 100 -> 13 0 0");
+        assert_eq!(speed(2, 0), "S 2 0 -> 0 0 stop");
+        assert_eq!(speed(2, 99), "S 2 99 -> 0 0 rapid");
+        assert_eq!(speed(2, 46), "S 2 46 -> 0 0 2000000000");
+        assert_eq!(speed(2, 100), "S 2 100 -> 21 0 0");
+        assert_eq!(code(4, Speed::Rate(152_500_000)), "C 4 152500000 -> 0 0 5153");
+        assert_eq!(code(2, Speed::Stop), "C 2 stop -> 0 0 0");
+        assert_eq!(code(2, Speed::Rapid), "C 2 rapid -> 0 0 99");
+        assert_eq!(code(3, Speed::Stop), "C 3 stop -> 20 0 0");
+        assert_eq!(exact(2, Speed::Stop), "X 2 stop -> 0");
+        assert_eq!(exact(2, Speed::Rate(11_200_000)), "X 2 11200000 -> 1");
+        assert_eq!(exact(3, Speed::Rapid), "X 3 rapid ->");
+        let head = |room| written(Line::Head { room, first: 9 });
+        assert_eq!(head(4), "H 4 9 -> 0 0 2 %~\\011\\012");
+        assert_eq!(head(1), "H 1 9 -> 19 2 0 ^");
+        assert_eq!(head(0), "H 0 9 -> 19 2 0");
+    }
+
+    #[test]
+    fn words_of_two_digits() {
+        let nth = Nth { specification: Specification::new(2539, "N3F2S2*", ""), n: 0, tape: rows("%\nN001F00S99\n") };
+        assert_eq!(written(Line::Block(nth)), "W 2539 N3F2S2* 0 %~N001F00S99~ -> 0 0 - N 1 2 FSstop SSrapid");
+        let lines: Vec<String> = spelt_speeds().into_iter().map(written).collect();
+        assert_eq!(lines[1], "C 2 r9 -> 0 0 99");
+        assert_eq!(lines[7], "J 2539 N3F2* 8 0 - N 1 1 FSs -> 0 0 8 N001F00~");
     }
 
     #[test]
@@ -557,7 +673,9 @@ mod tests {
         for posed in edges() {
             let text = posed.line.text();
             let reply = posed.reply(&text);
-            let asks = [&b"B 1057 "[..], b"B 2539 ", b"G 2539 "].iter().any(|start| text.starts_with(start));
+            let asks = ["B 1057 ", "B 2539 ", "G 2539 ", "C 2", "X 2 ", "J 2539 "]
+                .iter()
+                .any(|start| text.starts_with(start.as_bytes()));
             assert_eq!(reply.is_some(), asks && text.len() <= MOST_BYTES);
         }
     }

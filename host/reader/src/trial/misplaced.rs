@@ -1,4 +1,4 @@
-//! Shorthands with one slip in the order or form of their feeds, whose place is known from the making.
+//! Shorthands with one slip in the order or form of their feeds and S, whose number and place are known from the making.
 //!
 //! Nothing here asks the reader: all before the item at fault is as in a sound shorthand.
 
@@ -22,20 +22,23 @@ pub struct Slipped {
 /// Makes a slip and answers which item is at fault; none where the shorthand has nothing that can have it.
 type Slip = fn(&mut Chance, &mut Sketch) -> Option<usize>;
 
-const SLIPS: &[Slip] = &[
-    two_feeds_and_a_dimension,
-    f_before_a_dimension,
-    feed_of_no_dimension,
-    feed_before_g2,
-    feed_too_late,
-    letter_twice,
-    order_broken_behind_a_feed,
-    feed_out_of_form,
+/// The slips, with the number that each is refused with.
+const SLIPS: &[(Slip, u32)] = &[
+    (two_feeds_and_a_dimension, 2),
+    (f_before_a_dimension, 2),
+    (feed_of_no_dimension, 2),
+    (feed_before_g2, 2),
+    (feed_too_late, 2),
+    (letter_twice, 2),
+    (order_broken_behind_a_feed, 2),
+    (feed_out_of_form, 2),
+    (two_digits_of_e_or_d, 2),
+    (two_digits_by_1057, 3),
 ];
 
 /// A shorthand of either edition with one of the slips.
 pub fn slipped(chance: &mut Chance) -> Slipped {
-    let slip = chance.one_of(SLIPS);
+    let (slip, number) = chance.one_of(SLIPS);
     loop {
         let mut sketch = programs::sketch(chance);
         let plan = sketch.plan();
@@ -44,7 +47,7 @@ pub fn slipped(chance: &mut Chance) -> Slipped {
             let place = sketch.text(at).len();
             let profile = profiles::any(chance, &plan);
             let specification = Specification { profile, ..sketch.plan().specification };
-            return Slipped { plan, specification, refusal: Refusal::new(2, place) };
+            return Slipped { plan, specification, refusal: Refusal::new(number, place) };
         }
     }
 }
@@ -61,6 +64,24 @@ impl Sketch {
         (!pairs.is_empty()).then(|| chance.one_of(&pairs))
     }
 
+    /// An item of one of `letters` that is a speed.
+    fn some_speed(&self, chance: &mut Chance, letters: &[u8]) -> Option<usize> {
+        let fits = |item: &Drawn| letters.contains(&item.letter) && matches!(item.made, Made::Speed { .. });
+        let all: Vec<usize> = (0..self.items.len()).filter(|&at| fits(&self.items[at])).collect();
+        (!all.is_empty()).then(|| chance.one_of(&all))
+    }
+
+    /// A feed or S that may stand in such a shorthand.
+    fn speed(&self, chance: &mut Chance, letter: u8) -> Drawn {
+        programs::speed(chance, letter, self.edition == 2539)
+    }
+
+    /// Puts other bytes behind the item's letter.
+    fn write(&mut self, at: usize, data: &str) {
+        let item = &mut self.items[at];
+        item.text = [&[item.letter], data.as_bytes()].concat();
+    }
+
     fn take_out(&mut self, letters: &[u8]) {
         self.items.retain(|item| !letters.contains(&item.letter));
     }
@@ -73,8 +94,7 @@ fn two_feeds_and_a_dimension(chance: &mut Chance, sketch: &mut Sketch) -> Option
     let mut feeds = *b"ED";
     chance.shuffle(&mut feeds);
     for feed in feeds {
-        let feed = programs::speed(chance, feed);
-        sketch.items.insert(at + 1, feed);
+        sketch.items.insert(at + 1, sketch.speed(chance, feed));
     }
     Some(next + 2)
 }
@@ -84,7 +104,7 @@ fn f_before_a_dimension(chance: &mut Chance, sketch: &mut Sketch) -> Option<usiz
     sketch.take_out(b"F");
     let (at, next) = sketch.two_dimensions(chance)?;
     let place = chance.one_of(&[at + 1, next]);
-    sketch.items.insert(place, programs::speed(chance, b'F'));
+    sketch.items.insert(place, sketch.speed(chance, b'F'));
     Some(next + 1)
 }
 
@@ -93,14 +113,14 @@ fn feed_of_no_dimension(chance: &mut Chance, sketch: &mut Sketch) -> Option<usiz
     let feed = chance.one_of(b"EDF");
     sketch.take_out(&[feed]);
     let first = *sketch.dimensions().first()?;
-    sketch.items.insert(first, programs::speed(chance, feed));
+    sketch.items.insert(first, sketch.speed(chance, feed));
     Some(first + 1)
 }
 
 fn feed_before_g2(chance: &mut Chance, sketch: &mut Sketch) -> Option<usize> {
     let first = sketch.items.first()?.letter;
     let feed = chance.one_of(b"EDF");
-    sketch.items.insert(0, programs::speed(chance, feed));
+    sketch.items.insert(0, sketch.speed(chance, feed));
     (first == b'G').then_some(1)
 }
 
@@ -110,7 +130,7 @@ fn feed_too_late(chance: &mut Chance, sketch: &mut Sketch) -> Option<usize> {
     sketch.take_out(&[feed]);
     let first = sketch.items.iter().position(|item| b"STM".contains(&item.letter))?;
     let at = some_place(chance, first + 1, sketch);
-    sketch.items.insert(at, programs::speed(chance, feed));
+    sketch.items.insert(at, sketch.speed(chance, feed));
     Some(at)
 }
 
@@ -124,7 +144,7 @@ fn letter_twice(chance: &mut Chance, sketch: &mut Sketch) -> Option<usize> {
     let letter = chance.one_of(b"EEDDF");
     let first = sketch.items.iter().position(|item| item.letter == letter)?;
     let again = if letter == b'F' || chance.happens(1, 2) {
-        programs::speed(chance, letter)
+        sketch.speed(chance, letter)
     } else {
         programs::dimension(chance, letter, sketch.edition == 2539, MARKS)
     };
@@ -141,19 +161,30 @@ fn order_broken_behind_a_feed(chance: &mut Chance, sketch: &mut Sketch) -> Optio
     let earlier = chance.one_of(&DIMENSIONS[..=rank]);
     sketch.items[next] = programs::dimension(chance, earlier, sketch.edition == 2539, MARKS);
     let feed = chance.one_of(b"ED");
-    sketch.items.insert(at + 1, programs::speed(chance, feed));
+    sketch.items.insert(at + 1, sketch.speed(chance, feed));
     Some(next + 1)
 }
 
-/// E2, D6, F9; a mark before the digit; digits that are no dimension's either.
+/// E1, D6, F9; a mark before the digit; digits that are no dimension's either.
 fn feed_out_of_form(chance: &mut Chance, sketch: &mut Sketch) -> Option<usize> {
-    let feed = |item: &Drawn| b"EDF".contains(&item.letter) && matches!(item.made, Made::Speed { .. });
-    let all: Vec<usize> = (0..sketch.items.len()).filter(|&at| feed(&sketch.items[at])).collect();
-    let at = (!all.is_empty()).then(|| chance.one_of(&all))?;
-    let data = chance.one_of(&["0", "1", "2", "2", "6", "7", "8", "9", "+3", "D4", "345", "030", "00", "0000", "3333"]);
-    let item = &mut sketch.items[at];
-    item.text = [&[item.letter], data.as_bytes()].concat();
+    let at = sketch.some_speed(chance, b"EDF")?;
+    let data = ["0", "1", "6", "7", "8", "9", "+2", "+3", "D4", "345", "030", "00", "0000", "3333"];
+    sketch.write(at, chance.one_of(&data));
     Some(at)
+}
+
+/// E2 or D2, which no edition has.
+fn two_digits_of_e_or_d(chance: &mut Chance, sketch: &mut Sketch) -> Option<usize> {
+    let at = sketch.some_speed(chance, b"ED")?;
+    sketch.write(at, "2");
+    Some(at)
+}
+
+/// F2 or S2, which only 2539 has.
+fn two_digits_by_1057(chance: &mut Chance, sketch: &mut Sketch) -> Option<usize> {
+    let at = sketch.some_speed(chance, b"FS")?;
+    sketch.write(at, "2");
+    (sketch.edition == 1057).then_some(at)
 }
 
 #[cfg(test)]

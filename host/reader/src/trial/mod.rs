@@ -7,6 +7,7 @@ pub mod door;
 pub mod inputs;
 pub mod lines;
 pub mod misplaced;
+mod preferred;
 mod profiles;
 pub mod programs;
 pub mod records;

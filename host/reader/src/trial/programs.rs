@@ -3,11 +3,13 @@
 //! Nothing here asks the reader: the expected blocks are known from the making.
 
 use super::chance::Chance;
+use super::preferred;
 use super::profiles::General;
 use crate::reading::{Block, Opening, Value};
 use crate::rows::{is_character, punched, BS, CR, DEL, HT, LF, NUL};
 use crate::shorthand::{Dropped, Layout, DIMENSIONS};
 use crate::specification::Specification;
+use crate::speeds::Speed;
 
 /// A word item as it was made.
 #[derive(Clone, Copy)]
@@ -118,10 +120,10 @@ pub(super) fn sketch(chance: &mut Chance) -> Sketch {
     items.extend(some_of(chance, b"G", density).iter().map(|&letter| plain(chance, letter)));
     for (&letter, own) in dimensions.iter().zip(own) {
         items.push(dimension(chance, letter, newer, if b"IJK".contains(&letter) { marks_of_ijk } else { marks }));
-        items.extend(own.map(|letter| speed(chance, letter)));
+        items.extend(own.map(|letter| speed(chance, letter, newer)));
     }
-    items.extend(feeds.iter().map(|&letter| speed(chance, letter)));
-    items.extend(some_of(chance, b"S", density).iter().map(|&letter| speed(chance, letter)));
+    items.extend(feeds.iter().map(|&letter| speed(chance, letter, newer)));
+    items.extend(some_of(chance, b"S", density).iter().map(|&letter| speed(chance, letter, newer)));
     items.extend(some_of(chance, b"TM", density).iter().map(|&letter| plain(chance, letter)));
     Sketch { edition, sequence, tabs, items }
 }
@@ -137,9 +139,10 @@ fn plain(chance: &mut Chance, letter: u8) -> Drawn {
     Drawn { letter, made: Made::Plain { digits }, text: vec![letter, digit(digits)] }
 }
 
-/// S, or a feed: F, E or D.
-pub(super) fn speed(chance: &mut Chance, letter: u8) -> Drawn {
-    let digits = 3 + chance.below(3);
+/// S, or a feed: F, E or D. In 2539 S and F may have two digits.
+pub(super) fn speed(chance: &mut Chance, letter: u8, newer: bool) -> Drawn {
+    let two_digits = newer && b"FS".contains(&letter) && chance.happens(1, 2);
+    let digits = if two_digits { 2 } else { 3 + chance.below(3) };
     Drawn { letter, made: Made::Speed { digits }, text: vec![letter, digit(digits)] }
 }
 
@@ -277,7 +280,9 @@ fn word(punch: &mut Punch, made: Made, edition: u32) -> Value {
     punch.sign(sign);
     match made {
         Made::Plain { digits } => Value::Plain(punch.digits(digits)),
-        Made::Speed { digits } => Value::Speed(punch.speed(digits)),
+        // a slip may have punched a digit too many
+        Made::Speed { digits: 2 } => Value::Speed(preferred::speed(punch.digits(2) % 100)),
+        Made::Speed { digits } => Value::Speed(Speed::Rate(punch.rate(digits))),
         Made::Dimension { digits, dropped, .. } => {
             let standing = if dropped == Dropped::None { digits } else { 1 + punch.chance.below(digits) };
             let mut number = punch.digits(standing) as i64;
@@ -376,8 +381,8 @@ impl Punch<'_> {
         number
     }
 
-    /// A coded speed: all zeros, or a second digit that is not.
-    fn speed(&mut self, count: usize) -> u64 {
+    /// A rate in 3 to 5 digits: all zeros, or a second digit that is not.
+    fn rate(&mut self, count: usize) -> u64 {
         let zero = self.chance.happens(1, 8);
         let slip = self.slips > 0 && self.chance.happens(1, 4); // refusal 13 is the rarest
         let d = if zero { 0 } else { self.chance.below(10) as u8 };

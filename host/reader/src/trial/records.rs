@@ -5,12 +5,14 @@
 use super::chance::Chance;
 use super::inputs::{bad_text, either_edition, strange_edition};
 use super::misplaced::{self, Slipped};
+use super::preferred;
 use super::profiles;
 use super::programs::{self, Made, Plan};
 use crate::punching::{Record, Word, CLEARED, PLACES};
 use crate::reading::{Opening, Value};
 use crate::shorthand::ORDER;
 use crate::specification::Specification;
+use crate::speeds::Speed;
 use crate::Refusal;
 
 /// The most rows of a lent buffer.
@@ -115,16 +117,23 @@ fn any_value(chance: &mut Chance) -> Value {
     let number = chance.number() >> chance.below(64);
     match chance.below(3) {
         0 => Value::Plain(number),
-        1 => Value::Speed(number),
+        1 => Value::Speed(any_speed(chance, number)),
         _ => Value::Dimension(number as i64),
     }
+}
+
+/// That rate, or now and then none.
+fn any_speed(chance: &mut Chance, units: u64) -> Speed {
+    let rate = Speed::Rate(units);
+    chance.one_of(&[Speed::Stop, Speed::Rapid, rate, rate, rate])
 }
 
 /// A value that the item holds, its edges often.
 fn value(chance: &mut Chance, made: Made) -> Value {
     match made {
         Made::Plain { digits } => Value::Plain(number(chance, digits)),
-        Made::Speed { digits } => Value::Speed(speed(chance, digits)),
+        Made::Speed { digits: 2 } => Value::Speed(preferred::some(chance)),
+        Made::Speed { digits } => Value::Speed(Speed::Rate(rate(chance, digits))),
         Made::Dimension { mark, digits, .. } => {
             let number = number(chance, digits) as i64;
             Value::Dimension(if mark.is_some() && chance.happens(1, 2) { -number } else { number })
@@ -143,8 +152,8 @@ fn number(chance: &mut Chance, digits: usize) -> u64 {
     }
 }
 
-/// A speed that a code of `digits` digits means: m times ten to the power d + 5 - k.
-fn speed(chance: &mut Chance, digits: usize) -> u64 {
+/// The rate that a code of 3 to 5 `digits` means: m times ten to the power d + 5 - k.
+fn rate(chance: &mut Chance, digits: usize) -> u64 {
     let least = power(digits - 2);
     let (d, m) = match chance.below(8) {
         0 => return 0,
@@ -315,12 +324,13 @@ fn wrong_kind(chance: &mut Chance, _: &Plan, record: &mut Record) -> Option<Refu
     let at = some_word(chance, record)?;
     let (number, other) = match record.places[at].1 {
         Value::Plain(number) => (number, chance.one_of(b"DS")),
-        Value::Speed(number) => (number, chance.one_of(b"DN")),
+        Value::Speed(Speed::Rate(units)) => (units, chance.one_of(b"DN")),
+        Value::Speed(_) => (0, chance.one_of(b"DN")),
         Value::Dimension(number) => (number.unsigned_abs(), chance.one_of(b"NS")),
     };
     record.places[at].1 = match other {
         b'D' => Value::Dimension(number as i64),
-        b'S' => Value::Speed(number),
+        b'S' => Value::Speed(any_speed(chance, number)),
         _ => Value::Plain(number),
     };
     Some(Refusal::new(16, at + 1))
@@ -372,17 +382,27 @@ fn inexact_speed(chance: &mut Chance, plan: &Plan, record: &mut Record) -> Optio
     let at = some_word_of(chance, record, |word| matches!(word.1, Value::Speed(_)))?;
     let (letter, value) = &mut record.places[at];
     let Some(Made::Speed { digits }) = made_of(plan, *letter) else { return None };
-    *value = Value::Speed(match chance.below(8) {
-        0 => 1 + chance.number() % 999,
-        1 => power(13),
-        2 => power(13) + (chance.number() >> 1),
-        3 => u64::MAX,
-        _ => too_fine(chance, digits),
+    *value = Value::Speed(match digits {
+        2 => Speed::Rate(preferred::missed(chance)),
+        _ => no_magic_three(chance, digits),
     });
     Some(Refusal::new(18, at + 1))
 }
 
-/// A speed with more significant digits than the code has room for.
+/// A speed that no code of 3 to 5 `digits` means.
+fn no_magic_three(chance: &mut Chance, digits: usize) -> Speed {
+    Speed::Rate(match chance.below(10) {
+        0 => return Speed::Stop,
+        1 => return Speed::Rapid,
+        2 => 1 + chance.number() % 999,
+        3 => power(13),
+        4 => power(13) + (chance.number() >> 1),
+        5 => u64::MAX,
+        _ => too_fine(chance, digits),
+    })
+}
+
+/// A rate with more significant digits than the code has room for.
 fn too_fine(chance: &mut Chance, digits: usize) -> u64 {
     let significant = digits + chance.below(3);
     let leading = power(significant - 2) + chance.number() % (9 * power(significant - 2));

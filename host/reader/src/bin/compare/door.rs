@@ -1,6 +1,7 @@
 //! Through the C host: block counts, coded speeds and the head.
 
 use super::{add, seen, seen_often, tell, worker_failed, Batch, Order, Seen, Turns};
+use second_opinion::shorthand::{Format, Kind};
 use second_opinion::trial::door::Door;
 use second_opinion::trial::inputs::{self, Answer, Ask, Input};
 use std::error::Error;
@@ -12,10 +13,13 @@ const BATCH: usize = 500;
 /// How many tapes at and over the row limit are tried, and how many of them one seed settles.
 const LONG: usize = 64;
 const LONG_BATCH: usize = 8;
-/// How often each refusal of a tape, shorthand or profile must be seen, and which answers to a tape without addresses.
+/// How often each refusal of a tape, shorthand or profile must be seen, and which answers to a tape without addresses, to one
+/// with speeds of two digits, and to a speed, code or head.
 const LEAST: u64 = 50;
 const REFUSALS: &[usize] = &[1, 2, 3, 4, 5, 6, 7, 8, 9, 10, 11, 12, 13, 14, 22, 23];
 const WITHOUT_ADDRESSES: &[usize] = &[0, 10, 11, 12, 13, 14];
+const TWO_DIGITS: &[usize] = &[0, 10, 11, 12, 14];
+const NUMBERS: &[usize] = &[0, 13, 19, 20, 21];
 
 pub fn compare(order: &Order) -> Result<bool, Box<dyn Error>> {
     let batches = batches(order.inputs);
@@ -73,12 +77,18 @@ fn work(order: &Order, turns: &Turns<Batch<Input>>, tally: &Mutex<Tally>) -> io:
     door.close()
 }
 
+fn has_two_digits(format: &Format) -> bool {
+    format.items.iter().any(|item| item.kind == Kind::Speed && item.most == 2)
+}
+
 /// What was seen through the C host.
 #[derive(Default)]
 struct Tally {
     tapes: Seen,
     /// those of the tapes whose words have no addresses
     without_addresses: Seen,
+    /// those that may have speeds of two digits
+    two_digits: Seen,
     numbers: Seen,
     odd_holes: u64,
     differences: u64,
@@ -91,8 +101,10 @@ impl Tally {
         match &input.ask {
             Ask::Count { specification, .. } => {
                 self.tapes[number] += 1;
-                let without = specification.format().is_ok_and(|format| !format.layout.has_addresses());
-                self.without_addresses[number] += u64::from(without);
+                let format = specification.format();
+                let fits = |rule: fn(&Format) -> bool| u64::from(format.as_ref().is_ok_and(rule));
+                self.without_addresses[number] += fits(|format| !format.layout.has_addresses());
+                self.two_digits[number] += fits(has_two_digits);
             }
             _ => self.numbers[number] += 1,
         }
@@ -108,6 +120,7 @@ impl Tally {
     fn add(&mut self, other: &Tally) {
         add(&mut self.tapes, &other.tapes);
         add(&mut self.without_addresses, &other.without_addresses);
+        add(&mut self.two_digits, &other.two_digits);
         add(&mut self.numbers, &other.numbers);
         self.odd_holes += other.odd_holes;
         self.differences += other.differences;
@@ -118,7 +131,8 @@ impl Tally {
         let kinds = [
             ("tapes, shorthands and profiles", &self.tapes, REFUSALS),
             ("of them tapes without addresses", &self.without_addresses, WITHOUT_ADDRESSES),
-            ("speeds, codes and heads", &self.numbers, &[]),
+            ("of them tapes with two-digit speeds", &self.two_digits, TWO_DIGITS),
+            ("speeds, codes and heads", &self.numbers, NUMBERS),
         ];
         let mut well = self.differences == 0;
         for (kind, counts, due) in kinds {

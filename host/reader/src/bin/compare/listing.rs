@@ -21,14 +21,17 @@ pub fn compare(order: &Order) -> Result<bool, Box<dyn Error>> {
         Ok(())
     })?;
     let tally = tally.into_inner()?;
-    println!("listings: {} compared, seen {}, {} differences", tally.compared, seen(&tally.seen), tally.differences);
-    Ok(tally.differences == 0 && tally.compared == order.inputs as u64)
+    let Tally { compared, named, differences, .. } = tally;
+    println!("listings: {compared} compared, {named} with stop or rapid, seen {}, {differences} differences", seen(&tally.seen));
+    Ok(differences == 0 && compared == order.inputs as u64)
 }
 
 /// What was seen of the listing program.
 #[derive(Default)]
 struct Tally {
     compared: u64,
+    /// those that show stop or rapid
+    named: u64,
     seen: Seen,
     differences: u64,
 }
@@ -37,6 +40,7 @@ impl Tally {
     fn take(&mut self, Listed { input, profile, known }: &Listed, found: &[u8]) {
         let reader = listing(input, profile.as_deref().unwrap_or(b""));
         self.compared += 1;
+        self.named += u64::from(reader.contains("stop") || reader.contains("rapid"));
         let number = reader.strip_prefix("refused ").and_then(|rest| rest.split(' ').next()?.parse().ok());
         self.seen[number.unwrap_or(0)] += 1;
         if found == reader.as_bytes() && known.as_ref().is_none_or(|known| *known == reader) {

@@ -17,7 +17,12 @@ const LEAST: &[(u8, &[usize], u64)] = &[
     (b'P', &[0, 15], 100),
     (b'F', &[0, 1, 2, 3], 100),
     (b'G', &[0, 22, 23], 100),
+    (b'S', &[0, 13, 21], 100),
+    (b'C', &[0, 20, 21], 100),
+    (b'X', &[0, 18], 100),
 ];
+/// The same of lines that say or answer stop or rapid.
+const LEAST_NAMED: &[(u8, &[usize], u64)] = &[(b'J', &[0, 18], 100), (b'W', &[0], 10)];
 
 pub fn compare(order: &Order) -> Result<bool, Box<dyn Error>> {
     let batches = batches(order.inputs);
@@ -68,10 +73,17 @@ fn ask(order: &Order, batch: &[Posed]) -> io::Result<Tally> {
     Ok(tally)
 }
 
+/// Whether a speed in that line is stop or rapid.
+fn names_a_speed(line: &[u8]) -> bool {
+    ["stop", "rapid"].iter().any(|name| line.windows(name.len()).any(|part| part == name.as_bytes()))
+}
+
 /// What was seen of the answers, by the letters of the lines.
 #[derive(Default)]
 struct Tally {
     seen: BTreeMap<u8, Seen>,
+    /// those with stop or rapid in the line or its answer
+    named: BTreeMap<u8, Seen>,
     unasked: u64,
     differences: u64,
 }
@@ -79,12 +91,16 @@ struct Tally {
 impl Tally {
     fn take(&mut self, posed: &Posed, text: &[u8], written: &[u8]) {
         let reply = posed.reply(text);
+        let reader = lines::answered(text, reply.as_ref());
         match &reply {
-            Some(reply) => self.seen.entry(text[0]).or_default()[reply.number as usize] += 1,
+            Some(reply) => {
+                let number = reply.number as usize;
+                self.seen.entry(text[0]).or_default()[number] += 1;
+                self.named.entry(text[0]).or_default()[number] += u64::from(names_a_speed(&reader));
+            }
             None => self.unasked += 1,
         }
         let as_made = posed.known.is_none_or(|known| reply.as_ref().is_some_and(|reply| known == (reply.number, reply.place)));
-        let reader = lines::answered(text, reply.as_ref());
         if written == reader && as_made {
             return;
         }
@@ -97,8 +113,8 @@ impl Tally {
     }
 
     fn add(&mut self, other: &Tally) {
-        for (&letter, seen) in &other.seen {
-            add(self.seen.entry(letter).or_default(), seen);
+        for (own, others) in [(&mut self.seen, &other.seen), (&mut self.named, &other.named)] {
+            others.iter().for_each(|(&letter, seen)| add(own.entry(letter).or_default(), seen));
         }
         self.unasked += other.unasked;
         self.differences += other.differences;
@@ -112,9 +128,11 @@ impl Tally {
             println!("{}: {asked}, seen {}", char::from(letter), seen(counts));
             total += asked;
         }
-        for &(letter, numbers, least) in LEAST {
-            let counts = self.seen.get(&letter).copied().unwrap_or_default();
-            well &= seen_often(&char::from(letter).to_string(), &counts, numbers, least);
+        for (kind, all, due) in [("", &self.seen, LEAST), (" with stop or rapid", &self.named, LEAST_NAMED)] {
+            for &(letter, numbers, least) in due {
+                let counts = all.get(&letter).copied().unwrap_or_default();
+                well &= seen_often(&format!("{}{kind}", char::from(letter)), &counts, numbers, least);
+            }
         }
         println!("{total} lines, {} differences", self.differences);
         well
