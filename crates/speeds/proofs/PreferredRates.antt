@@ -11,7 +11,7 @@ use lib.ListN.{getD}
 use borrow.Author.Tests.{eqb-true, ltb-true, leb-true, leb-false, le-leb, lt-leb}
 use Rattle.rows.proofs.Tabulated.{tab-passes}
 use Rattle.speeds.specs.Rounding.{apart, NoNearer}
-use Rattle.speeds.specs.Preferred.{rates, rateOf, nextAsNear, climbed, nearestCode, NearestCode, leastRate, mostRate}
+use Rattle.speeds.specs.Preferred.{rates, lastCode, rateOf, nextAsNear, climbed, nearestCode, NearestCode, leastRate, mostRate}
 
 -- the rate of a code by its place in the table
 pub rate-at : (k : ℕ) → rateOf (k + 1) ≡ getD rates k 0
@@ -29,6 +29,14 @@ unfolding rates
 rule-of-ten c l h =
     let on : (c + 20) - 1 ≡ (c - 1) + 20 = omega arith in
     rw on (eqb-true _ _ (tab-passes (λ k. eqb (getD rates (k + 20) 0) (10 * getD rates k 0)) 78 refl (c - 1) (omega arith)))
+
+pub first-rate : rateOf 1 ≡ leastRate
+unfolding rates
+first-rate = refl
+
+pub last-rate : rateOf lastCode ≡ mostRate
+unfolding rates
+last-rate = refl
 
 pub rate-least : (c : ℕ) → 1 ≤ c → c ≤ 98 → leastRate ≤ rateOf c
 unfolding rates

@@ -156,16 +156,21 @@ pub(crate) fn speed_of(code: u64) -> SpeedRead
     }
 }
 
-// The nearest rate's code; a rate beyond the table is refused.
+// The nearest rate's code; a rate under the table's first or over its last is refused.
 pub(crate) fn code_of(speed: Speed) -> Code
     ensures { λ r. ⌜ codeTold r ≡ codeFor 2 speed ⌝ }
 {
     match speed {
         Speed::Stop => Code::Number(0),
         Speed::Rapid => Code::Number(99),
-        Speed::Rate(rate) => match rate {
-            11_200_000..=800_000_000_000 => Code::Number(nearest_code(rate) as u64),
-            _ => Code::Refused(NOT_CODABLE),
-        },
+        Speed::Rate(rate) => {
+            if rate < rate_of(1) {
+                return Code::Refused(NOT_CODABLE);
+            }
+            if rate_of(98) < rate {
+                return Code::Refused(NOT_CODABLE);
+            }
+            Code::Number(nearest_code(rate) as u64)
+        }
     }
 }
