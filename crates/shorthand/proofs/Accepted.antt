@@ -19,7 +19,7 @@ use Rattle.shorthand.specs.Spell.{digit, spellItem, spellItems, spell}
 use Rattle.shorthand.specs.declared.Order.{Order}
 use Rattle.shorthand.specs.declared.Edition.{Edition}
 use Rattle.shorthand.specs.declared.Edition.the-variants.{Iso1057, Iso2539}
-use Rattle.shorthand.specs.Edition.{numberOf}
+use Rattle.shorthand.specs.Edition.{numberOf, later}
 use Rattle.shorthand.specs.Lawful.{dotsFit, LawfulIn, Lawful}
 use Rattle.shorthand.specs.Order.{start}
 use Rattle.shorthand.specs.Stand.{dotFits}
@@ -30,8 +30,8 @@ use Rattle.shorthand.proofs.Walking.{Steps, stay, step}
 use Rattle.shorthand.proofs.Answered.{front-of, Ground, stars, grounds, starred-front}
 use Rattle.shorthand.specs.Mending.{Spelt, Mends}
 
-pub items-of : (n : ℕ) (d : Bool) (its : List Item) → itemsOf (formatOf n d its) ≡ its
-items-of n d its = take-append-seam its (replicate (22 - length its) blank)
+pub items-of : (u : Bool) (n : ℕ) (d : Bool) (its : List Item) → itemsOf (formatOf u n d its) ≡ its
+items-of u n d its = take-append-seam its (replicate (22 - length its) blank)
 
 -- ---- lawful items are steps of the walk
 
@@ -66,10 +66,10 @@ pub complete-in : {e : Edition} {f : Format} → LawfulIn e f → parsedIn e (sp
 unfolding spell
 complete-in {e} {f} l =
     let w = opened e (f .dots) (l .dots) (ordered-items (l .order)) in
-    let spelled : itemsOf f ≡ l .items = ap itemsOf (l .parts) ∙ items-of (f .sequence) (f .dots) (l .items) in
+    let spelled : itemsOf f ≡ l .items = ap itemsOf (l .parts) ∙ items-of (later e) (f .sequence) (f .dots) (l .items) in
     ap (λ (its : List Item). parsedIn e (78 ∷ digit (f .sequence) ∷ (spellItems (f .dots) its ++ (42 ∷ [])))) spelled
     ∙ starred-front (front-of (f .sequence) (l .sequence) (w .steps))
-    ∙ ap (λ (d : Bool). taken (formatOf (f .sequence) d (l .items))) (w .same)
+    ∙ ap (λ (d : Bool). taken (formatOf (later e) (f .sequence) d (l .items))) (w .same)
     ∙ ap taken (sym (l .parts))
 
 -- ---- and steps of the walk are lawful items
@@ -108,10 +108,10 @@ steps-opened (step {it = it} dot f s) =
 
 taken-lawful : {e : Edition} {t : List ℕ} {f : Format} → Ground e t (taken f) → (t ≡ spell f) × LawfulIn e f
 unfolding spell
-taken-lawful (stars {dots = dots} h) =
+taken-lawful {e} (stars {dots = dots} h) =
     let w = steps-opened (h .steps) in (
       ap (λ (l : List ℕ). l ++ (42 ∷ [])) (h .spelled)
-          ∙ ap (λ (l : List ℕ). 78 ∷ digit (h .seq) ∷ (l ++ (42 ∷ []))) (w .spells ∙ ap (spellItems (isDotted dots)) (sym (items-of (h .seq) (isDotted dots) (h .its)))),
+          ∙ ap (λ (l : List ℕ). 78 ∷ digit (h .seq) ∷ (l ++ (42 ∷ []))) (w .spells ∙ ap (spellItems (isDotted dots)) (sym (items-of (later e) (h .seq) (isDotted dots) (h .its)))),
       record { items = h .its; sequence = h .sequence; dots = w .fits; order = items-ordered (steps-items (h .steps)); parts = refl },
     )
 

@@ -17,7 +17,7 @@ use Rattle.shorthand.specs.Spell.{digit, spellKind, spellDot, spellItem}
 use Rattle.shorthand.specs.declared.Order.{Order}
 use Rattle.shorthand.specs.declared.Edition.{Edition}
 use Rattle.shorthand.specs.declared.Edition.the-variants.{Iso2539}
-use Rattle.shorthand.specs.Edition.{sequenceMost}
+use Rattle.shorthand.specs.Edition.{sequenceMost, later}
 use Rattle.shorthand.specs.Order.{start}
 use Rattle.shorthand.specs.Lawful.{digitIn}
 use Rattle.shorthand.specs.Stand.{Stand, whole, short, unfit, seen, stand, standN}
@@ -46,7 +46,7 @@ pub data Ground (e : Edition) : List ℕ → Answer Format → Type 0 where
   number-bars : {t : List ℕ} → standN e t ≡ unfit → Ground e t (refused (beyond (standN Iso2539 t)) 0)
   ends : {dots : Dots} {o : Order} {x : List ℕ} → Front e dots o x → Ground e x (refused 2 (length x))
   stars : {dots : Dots} {o : Order} {x : List ℕ} (h : Front e dots o x)
-      → Ground e (x ++ (42 ∷ [])) (taken (formatOf (h .seq) (isDotted dots) (h .its)))
+      → Ground e (x ++ (42 ∷ [])) (taken (formatOf (later e) (h .seq) (isDotted dots) (h .its)))
   follows : {dots : Dots} {o : Order} {x : List ℕ} (b : ℕ) (t : List ℕ) → Front e dots o x → Ground e (x ++ (42 ∷ (b ∷ t))) (refused 2 (length x + 1))
   item-lacks : {dots : Dots} {o : Order} {x : List ℕ} (b : ℕ) (t : List ℕ) → Front e dots o x → stand e dots o (seen (b ∷ t)) ≡ short
       → Ground e (x ++ (b ∷ t)) (refused 2 (length x + length (b ∷ t)))
@@ -54,7 +54,7 @@ pub data Ground (e : Edition) : List ℕ → Answer Format → Type 0 where
       → stand e dots o (seen (b ∷ t)) ≡ unfit → Ground e (x ++ (b ∷ t)) (refused (beyond (stand Iso2539 dots o (seen (b ∷ t)))) (length x))
 
 at-end : {e : Edition} {dots : Dots} {o : Order} {x rest : List ℕ} {a : Answer Format} (h : Front e dots o x) → T (apart rest)
-    → End e dots o (formatOf (h .seq) (isDotted dots) (h .its)) (length x) rest a → Ground e (x ++ rest) a
+    → End e dots o (formatOf (later e) (h .seq) (isDotted dots) (h .its)) (length x) rest a → Ground e (x ++ rest) a
 at-end {e} {x = x} h stops out = subst (λ (l : List ℕ). Ground e l (refused 2 (length x))) (sym (append-nil x)) (ends h)
 at-end h stops star = stars h
 at-end h stops (past {b} {t}) = follows b t h
@@ -67,7 +67,7 @@ walked {e} seq {a = a} d w =
     let h : Front e (w .dots′) (w .o′) (78 ∷ digit seq ∷ w .x) = front-of seq d (w .steps) in
     subst (λ (l : List ℕ). Ground e (78 ∷ digit seq ∷ l) a) (sym (w .splits))
     (at-end h (w .stops)
-    (subst (λ (p : ℕ). End e (w .dots′) (w .o′) (formatOf seq (isDotted (w .dots′)) (w .its)) p (w .rest) a) (omega arith) (w .ends)))
+    (subst (λ (p : ℕ). End e (w .dots′) (w .o′) (formatOf (later e) seq (isDotted (w .dots′)) (w .its)) p (w .rest) a) (omega arith) (w .ends)))
 
 pub grounds : (e : Edition) (t : List ℕ) → Ground e t (parsedIn e t)
 unfolding parsedIn
@@ -116,6 +116,6 @@ module _ {e : Edition} {dots : Dots} {o : Order} {x : List ℕ} (h : Front e dot
       )
 
   -- "*" behind it is taken
-  pub starred-front : parsedIn e (x ++ (42 ∷ [])) ≡ taken (formatOf (h .seq) (isDotted dots) (h .its))
+  pub starred-front : parsedIn e (x ++ (42 ∷ [])) ≡ taken (formatOf (later e) (h .seq) (isDotted dots) (h .its))
   unfolding itemsFrom
   starred-front = resumed (42 ∷ []) tt .2

@@ -1,7 +1,7 @@
 -- Every lawful Format has the facts that reading and punching rest on.
 use Prim.Native.Nat.{ℕ, zero, suc, _+_, _≤_}
 use native.Mathlib.Omega.{arith}
-use mathlib.Core.Path.{_≡_, sym, ap, _∙_}
+use mathlib.Core.Path.{_≡_, sym, ap, ap₂, _∙_}
 use mathlib.Core.Bool.{Bool, false, _||_}
 use mathlib.Core.List.{List}
 use lib.Dec.{T, eqb}
@@ -73,12 +73,13 @@ lawful-facts {n} {f} k =
     let e = k .edition in
     let l = k .within in
     let walk : Items e start (l .items) = ordered-items (l .order) in
-    let spelled : itemsOf f ≡ l .items = ap itemsOf (l .parts) ∙ items-of (f .sequence) (f .dots) (l .items) in
+    let spelled : itemsOf f ≡ l .items = ap itemsOf (l .parts) ∙ items-of (later e) (f .sequence) (f .dots) (l .items) in
     record {
       sequence = (within 3 (sequenceMost e) (f .sequence) (l .sequence) .0, sequence-small e (f .sequence) (l .sequence));
       few = omega (arith, ap (λ (g : Format). g .count) (l .parts), items-few walk);
       fair = rw spelled (fair walk (l .order .once));
-      parts = rw spelled (l .parts ∙ ap (λ (b : Bool). addressed b (formatOf (f .sequence) (f .dots) (l .items))) (sym (ap (λ (g : Format). g .addresses) (l .parts))));
+      parts = rw spelled
+          (l .parts ∙ ap₂ (λ (b u : Bool). addressed b (formatOf u (f .sequence) (f .dots) (l .items))) (sym (ap (λ (g : Format). g .addresses) (l .parts))) (sym (ap (λ (g : Format). g .unnumbered) (l .parts))));
     }
 
 -- whether words have addresses is none of them

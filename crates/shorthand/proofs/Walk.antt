@@ -22,7 +22,7 @@ use Rattle.shorthand.specs.declared.Sequence.{Sequence}
 use Rattle.shorthand.specs.declared.Dots.{Dots}
 use Rattle.shorthand.specs.declared.Dots.the-variants.{Open}
 use Rattle.shorthand.specs.Layout.{blank, formatOf, emptyFormat}
-use Rattle.shorthand.specs.Edition.{numberOf}
+use Rattle.shorthand.specs.Edition.{numberOf, later}
 use Rattle.shorthand.specs.Order.{start, due, after}
 use Rattle.shorthand.specs.Spell.{starts}
 use Rattle.shorthand.specs.Stand.{whole, seen, stand}
@@ -39,16 +39,16 @@ unfolding itemsFrom
 from-nothing zero e h = refl
 from-nothing (suc n) e h = refl
 
-ends : (h : Here) (t : List ℕ) → afterStar h t ≡ ending (formatOf (h .sequence) (isDotted (h .dots)) (h .items)) (h .place + 1) t
-ends h [] = refl
-ends h (b ∷ t) = refl
+ends : (e : Edition) (h : Here) (t : List ℕ) → afterStar e h t ≡ ending (formatOf (later e) (h .sequence) (isDotted (h .dots)) (h .items)) (h .place + 1) t
+ends e h [] = refl
+ends e h (b ∷ t) = refl
 
 dotted-settled : (b : Bool) → isDotted (settle b) ≡ b
 dotted-settled true = refl
 dotted-settled false = refl
 
-pushed-format : (seq : ℕ) (d b : Bool) (its : List Item) (it : Item) → length its < 22 → pushed (formatOf seq d its) b it ≡ formatOf seq (isDotted (settle b)) (its ++ (it ∷ []))
-pushed-format seq d b its it h = rw (padded-set 22 blank it its h, length-append, dotted-settled)
+pushed-format : (u : Bool) (seq : ℕ) (d b : Bool) (its : List Item) (it : Item) → length its < 22 → pushed (formatOf u seq d its) b it ≡ formatOf u seq (isDotted (settle b)) (its ++ (it ∷ []))
+pushed-format u seq d b its it h = rw (padded-set 22 blank it its h, length-append, dotted-settled)
 
 abbrev pub hereAt : ℕ → Dots → Order → List Item → ℕ → Here
 hereAt seq dots o its at = record { sequence = seq; dots = dots; order = o; items = its; place = at }
@@ -56,12 +56,12 @@ hereAt seq dots o its at = record { sequence = seq; dots = dots; order = o; item
 -- behind the items its, each due, the text goes on at the place at, and the answer is a
 pub record Walked (e : Edition) (seq : ℕ) (t : List ℕ) (a : Answer Format) (f : Format) (dots : Dots) (o : Order) (at : ℕ) : Type 0 where
   pub its : List Item
-  pub holds : f ≡ formatOf seq (isDotted dots) its
+  pub holds : f ≡ formatOf (later e) seq (isDotted dots) its
   pub due-so-far : (more : List Item) → Items e o more → Items e start (its ++ more)
   pub passed : length its ≤ at
   pub answers : a ≡ itemsFrom (length t - length its) e (hereAt seq dots o its at) (drop at t)
 
-pub walk-starts : (e : Edition) (seq : ℕ) (t : List ℕ) (at : ℕ) → Walked e seq t (itemsFrom (length t) e (opening seq at) (drop at t)) (formatOf seq false []) Open start at
+pub walk-starts : (e : Edition) (seq : ℕ) (t : List ℕ) (at : ℕ) → Walked e seq t (itemsFrom (length t) e (opening seq at) (drop at t)) (formatOf (later e) seq false []) Open start at
 walk-starts e seq t at = record { its = []; holds = refl; due-so-far = λ more d. d; passed = omega arith; answers = rw sub-zero }
 
 module _ {e : Edition} {seq : ℕ} {t : List ℕ} {a : Answer Format} {f : Format} {dots : Dots} {o : Order} {at : ℕ} (w : Walked e seq t a f dots o at) where
@@ -77,7 +77,7 @@ module _ {e : Edition} {seq : ℕ} {t : List ℕ} {a : Answer Format} {f : Forma
 
     pub walk-ends : getD t at 0 ≡ 42 → a ≡ ending f (at + 1) (drop (at + 1) t)
     unfolding itemsFrom
-    walk-ends s = step ∙ rw (from-place t at h, s, w .holds) (ends (hereAt seq dots o (w .its) at) (drop (at + 1) t))
+    walk-ends s = step ∙ rw (from-place t at h, s, w .holds) (ends e (hereAt seq dots o (w .its) at) (drop (at + 1) t))
 
     -- the next item as it is judged: the walk goes on behind a whole one, and ends at any other
     abbrev pub Met : Seen → Found → Type 0
@@ -104,7 +104,7 @@ module _ {e : Edition} {seq : ℕ} {t : List ℕ} {a : Answer Format} {f : Forma
             let more : length (w .its ++ (it ∷ [])) ≡ suc (length (w .its)) = rw (length-append, add-one) in
             record {
               its = w .its ++ (it ∷ []);
-              holds = ap (λ g. pushed g (s .dot) it) (w .holds) ∙ pushed-format seq (isDotted dots) (s .dot) (w .its) it few;
+              holds = ap (λ g. pushed g (s .dot) it) (w .holds) ∙ pushed-format (later e) seq (isDotted dots) (s .dot) (w .its) it few;
               due-so-far = λ rest d. rw (append-assoc (w .its) (it ∷ []) rest) (w .due-so-far (it ∷ rest) (then next-due d));
               passed = rw more (omega (arith, w .passed, v .behind));
               answers = item ∙ rw (← r, place, more, v .dot);

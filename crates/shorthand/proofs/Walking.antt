@@ -12,6 +12,7 @@ use Rattle.rows.specs.Answer.{Answer, taken, refused}
 use Rattle.shorthand.specs.declared.Item.{Item}
 use Rattle.shorthand.specs.declared.Format.{Format}
 use Rattle.shorthand.specs.declared.Dots.{Dots}
+use Rattle.shorthand.specs.Edition.{later}
 use Rattle.shorthand.specs.Layout.{formatOf}
 use Rattle.shorthand.specs.Spell.{spellKind, spellDot, spellItem, isDigit}
 use Rattle.shorthand.specs.declared.Order.{Order}
@@ -103,11 +104,11 @@ pub record Walk (e : Edition) (seq : ℕ) (dots : Dots) (o : Order) (before : Li
   pub steps : Steps e dots o its dots′ o′ x
   pub splits : t ≡ x ++ rest
   pub stops : T (apart rest)
-  pub ends : End e dots′ o′ (formatOf seq (isDotted dots′) (before ++ its)) (p + length x) rest a
+  pub ends : End e dots′ o′ (formatOf (later e) seq (isDotted dots′) (before ++ its)) (p + length x) rest a
 
 module _ (e : Edition) (seq : ℕ) where
   at-once : {dots : Dots} {o : Order} {before : List Item} {p : ℕ} {t : List ℕ} {a : Answer Format} → T (apart t)
-      → End e dots o (formatOf seq (isDotted dots) before) p t a → Walk e seq dots o before p t a
+      → End e dots o (formatOf (later e) seq (isDotted dots) before) p t a → Walk e seq dots o before p t a
   at-once {dots} {o} {before} {p} {t} {a} h end =
       record { its = []; dots′ = dots; o′ = o; x = []; rest = t; steps = stay; splits = refl; stops = h; ends = rw (append-nil before, add-zero p) end }
 
@@ -124,7 +125,7 @@ module _ (e : Edition) (seq : ℕ) where
         steps = step dot f (w .steps);
         splits = q ∙ ap (λ (l : List ℕ). spellItem dot it ++ l) (w .splits) ∙ sym (append-assoc (spellItem dot it) (w .x) (w .rest));
         stops = w .stops;
-        ends = subst₂ (λ (b : List Item) (m : ℕ). End e (w .dots′) (w .o′) (formatOf seq (isDotted (w .dots′)) b) m (w .rest) a)
+        ends = subst₂ (λ (b : List Item) (m : ℕ). End e (w .dots′) (w .o′) (formatOf (later e) seq (isDotted (w .dots′)) b) m (w .rest) a)
             (append-snoc before it (w .its))
             (omega (arith, ap length q, length-append (spellItem dot it) rest, length-append (spellItem dot it) (w .x)))
             (w .ends);
@@ -139,11 +140,11 @@ module _ (e : Edition) (seq : ℕ) where
       → length (b ∷ t) ≤ suc n → T (apart (b ∷ t))
       → (x : Bool) → eqb b 42 ≡ x → (s : Stand Item) → stand e dots o (seen (b ∷ t)) ≡ s → Stands e dots o (b ∷ t) s
       → Walk e seq dots o before p (b ∷ t)
-      (cond x (afterStar (at seq dots o before p) t)
+      (cond x (afterStar e (at seq dots o before p) t)
       (leads p (b ∷ t) s (beyond (stand Iso2539 dots o (seen (b ∷ t))))
       (λ it rest. itemsFrom n e (at seq (settle (eqb b 46)) (after o it) (before ++ (it ∷ [])) (p + (length (b ∷ t) - length rest))) rest)))
   walk-on n rec dots o before p b [] le h true q s r k =
-      subst (λ (c : ℕ). Walk e seq dots o before p (c ∷ []) (taken (formatOf seq (isDotted dots) before))) (sym (eqb→eq b 42 (rw q tt))) (at-once tt star)
+      subst (λ (c : ℕ). Walk e seq dots o before p (c ∷ []) (taken (formatOf (later e) seq (isDotted dots) before))) (sym (eqb→eq b 42 (rw q tt))) (at-once tt star)
   walk-on n rec dots o before p b (c ∷ t) le h true q s r k =
       subst (λ (d : ℕ). Walk e seq dots o before p (d ∷ (c ∷ t)) (refused 2 (p + 1))) (sym (eqb→eq b 42 (rw q tt))) (at-once tt past)
   walk-on n rec dots o before p b t le h false q (whole it rest) r k =

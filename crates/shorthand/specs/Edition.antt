@@ -11,7 +11,7 @@ abbrev pub numberOf : Edition → ℕ
 numberOf Iso1057 = 1057
 numberOf Iso2539 = 2539
 
--- what only 2539 has: N4 to N9, items without dots, I J K, three digits, a missing sign that means plus, F2 and S2
+-- what only 2539 has: N4 to N9, items without dots, I J K, three digits, a missing sign that means plus, F2 and S2, blocks without number
 abbrev pub later : Edition → Bool
 later Iso1057 = false
 later Iso2539 = true

@@ -27,4 +27,4 @@ pub record Facts (f : Format) : Type 0 where
   pub sequence : (3 ≤ f .sequence) × (f .sequence ≤ 9)
   pub few : f .count ≤ 22
   pub fair : Fair (itemsOf f)
-  pub parts : f ≡ addressed (f .addresses) (formatOf (f .sequence) (f .dots) (itemsOf f))
+  pub parts : f ≡ addressed (f .addresses) (formatOf (f .unnumbered) (f .sequence) (f .dots) (itemsOf f))

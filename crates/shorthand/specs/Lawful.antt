@@ -1,4 +1,4 @@
--- Which Formats an edition allows, as a relation (documents 01, "The shorthand", and 02, 1/12 and 4/12).
+-- Which Formats an edition allows, as a relation (documents 01, "The shorthand", and 02, 1/12, 4/12 and 5/12).
 use Prim.Native.Nat.{ℕ}
 use mathlib.Core.Path.{_≡_}
 use mathlib.Core.Bool.{Bool, false, _&&_, _||_, not, Bool·beq}
@@ -113,13 +113,13 @@ abbrev pub dotsFit : Edition → Bool → List Item → Bool
 dotsFit e dots [] = not dots
 dotsFit e dots (it ∷ its) = later e || dots
 
--- a Format of an edition
+-- a Format of an edition; in 2539 alone a block may have no number
 pub record LawfulIn (e : Edition) (f : Format) : Type 0 where
   pub items : List Item
   pub sequence : T (digitIn 3 (sequenceMost e) (f .sequence))
   pub dots : T (dotsFit e (f .dots) items)
   pub order : Ordered e items
-  pub parts : f ≡ formatOf (f .sequence) (f .dots) items
+  pub parts : f ≡ formatOf (later e) (f .sequence) (f .dots) items
 
 -- and of the edition that has the number n
 pub record Lawful (n : ℕ) (f : Format) : Type 0 where

@@ -1,4 +1,5 @@
--- A Format as its parts: N's digits, dots or none, whether words have addresses, and the items; and what reading and punching need of these.
+-- A Format as its parts: whether a block may have no number, N's digits, dots or none, whether words have addresses, and the items; and what reading and
+-- punching need of these.
 use Prim.Native.Nat.{ℕ, _+_, _-_}
 use mathlib.Core.Bool.{Bool, true, false, cond}
 use mathlib.Core.List.{List, [], _++_}
@@ -17,12 +18,13 @@ abbrev pub blank : Item
 blank = record { letter = 0; kind = Plain 0 }
 
 -- the Format with these parts: the items and then unused places, 22 in all; by the detailed shorthand words have addresses
-abbrev pub formatOf : ℕ → Bool → List Item → Format
-formatOf n dots its = record { sequence = n; dots = dots; addresses = true; count = length its; items = its ++ replicate (22 - length its) blank }
+abbrev pub formatOf : Bool → ℕ → Bool → List Item → Format
+formatOf unnumbered n dots its =
+    record { unnumbered = unnumbered; sequence = n; dots = dots; addresses = true; count = length its; items = its ++ replicate (22 - length its) blank }
 
 -- a Format whose words have addresses, or not
 abbrev pub addressed : Bool → Format → Format
-addressed b f = record { sequence = f .sequence; dots = f .dots; addresses = b; count = f .count; items = f .items }
+addressed b f = record { unnumbered = f .unnumbered; sequence = f .sequence; dots = f .dots; addresses = b; count = f .count; items = f .items }
 
 -- the items of a Format
 abbrev pub itemsOf : Format → List Item
@@ -30,7 +32,7 @@ itemsOf f = take (f .count) (f .items)
 
 -- what a refusal hands back
 abbrev pub emptyFormat : Format
-emptyFormat = formatOf 0 false []
+emptyFormat = formatOf false 0 false []
 
 -- how an item's word is known: by its address; by its tab, and the address behind it; or by its tab alone (A, S and T of the general shorthand)
 pub data Way : Type 0 where

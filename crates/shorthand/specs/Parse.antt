@@ -13,7 +13,7 @@ use Rattle.shorthand.specs.declared.Edition.the-variants.{Iso1057, Iso25
 use Rattle.shorthand.specs.declared.Dots.{Dots}
 use Rattle.shorthand.specs.declared.Dots.the-variants.{Open, Dotted, Plainly}
 use Rattle.shorthand.specs.Layout.{formatOf}
-use Rattle.shorthand.specs.Edition.{numberOf}
+use Rattle.shorthand.specs.Edition.{numberOf, later}
 use Rattle.shorthand.specs.Order.{start, after}
 use Rattle.shorthand.specs.Spell.{starts}
 use Rattle.shorthand.specs.Stand.{Stand, whole, short, unfit, seen, stand, standN}
@@ -46,9 +46,9 @@ abbrev pub onward : Here → Bool → Item → ℕ → Here
 onward h dot it n = record { sequence = h .sequence; dots = settle dot; order = after (h .order) it; items = h .items ++ (it ∷ []); place = h .place + n }
 
 -- after "*" nothing stands
-abbrev pub afterStar : Here → List ℕ → Answer Format
-afterStar h [] = taken (formatOf (h .sequence) (isDotted (h .dots)) (h .items))
-afterStar h (b ∷ t) = refused 2 (h .place + 1)
+abbrev pub afterStar : Edition → Here → List ℕ → Answer Format
+afterStar e h [] = taken (formatOf (later e) (h .sequence) (isDotted (h .dots)) (h .items))
+afterStar e h (b ∷ t) = refused 2 (h .place + 1)
 
 -- an item that is whole leads on; a short one only lacks the end of the text, "*" with it; one past mending is refused at its first byte
 abbrev pub leads : {A : Type 0} → ℕ → List ℕ → Stand A → ℕ → (A → List ℕ → Answer Format) → Answer Format
@@ -65,7 +65,7 @@ atFront nothing star item (b ∷ t) = cond (eqb b 42) (star t) item
 unfoldable pub itemsFrom : ℕ → Edition → Here → List ℕ → Answer Format
 itemsFrom zero e h t = refused 2 (h .place)
 itemsFrom (suc n) e h t =
-    atFront (refused 2 (h .place)) (afterStar h)
+    atFront (refused 2 (h .place)) (afterStar e h)
     (leads (h .place) t (stand e (h .dots) (h .order) (seen t)) (beyond (stand Iso2539 (h .dots) (h .order) (seen t)))
     (λ it rest. itemsFrom n e (onward h (starts 46 t) it (length t - length rest)) rest))
     t

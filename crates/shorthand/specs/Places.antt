@@ -109,7 +109,7 @@ pub record Says (r : Parsed) (a : Answer Format) : Type 0 where
 
 -- one item more, and the dots that it has
 abbrev pub pushed : Format → Bool → Item → Format
-pushed f dots it = record { sequence = f .sequence; dots = dots; addresses = f .addresses; count = f .count + 1; items = set (f .items) (f .count) it }
+pushed f dots it = record { unnumbered = f .unnumbered; sequence = f .sequence; dots = dots; addresses = f .addresses; count = f .count + 1; items = set (f .items) (f .count) it }
 
 -- behind "*", at the place p
 abbrev pub ending : Format → ℕ → List ℕ → Answer Format

@@ -18,6 +18,7 @@ use crate::Kind;
 use crate::Order;
 use crate::Parsed;
 use crate::Seen;
+use crate::is_later;
 use crate::items::judge_item;
 use crate::orders::START;
 use crate::orders::order_after;
@@ -25,14 +26,15 @@ use crate::pieces::see_item;
 use rows::Checked;
 use rows::Refusal;
 
-fn start_format(sequence: u8) -> Format
-    ensures { λ r. ⌜ r ≡ formatOf sequence false [] ⌝ }
+fn start_format(unnumbered: bool, sequence: u8) -> Format
+    ensures { λ r. ⌜ r ≡ formatOf unnumbered sequence false [] ⌝ }
 {
     let unused = Item {
         letter: 0,
         kind: Kind::Plain(0),
     };
     Format {
+        unnumbered,
         sequence,
         dots: false,
         addresses: true,
@@ -58,7 +60,7 @@ pub fn refuse(number: u32, place: usize) -> Parsed
 {
     Parsed {
         outcome: Checked::Refused(Refusal { number, place }),
-        format: start_format(0),
+        format: start_format(false, 0),
     }
 }
 
@@ -88,7 +90,7 @@ fn after_star(format: Format, text: &[u8], at: usize) -> Parsed
 pub(crate) fn read_items(edition: Edition, sequence: u8, text: &[u8], start: usize) -> Parsed
     ensures { λ r. ⌜ Says r (itemsFrom (length (now (text .entry))) edition (opening sequence start) (drop start (now (text .entry)))) ⌝ }
 {
-    let mut format = start_format(sequence);
+    let mut format = start_format(is_later(edition), sequence);
     let mut dots = Dots::Open;
     let mut order = START;
     let mut at = start;

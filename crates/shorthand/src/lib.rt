@@ -57,8 +57,9 @@ pub struct Item {
     pub kind: Kind,
 }
 
-// N's digits, dots or none, whether words have addresses, and the items.
+// Whether a block may have no number, N's digits, dots or none, whether words have addresses, and the items.
 pub struct Format {
+    pub unnumbered: bool,
     pub sequence: u8,
     pub dots: bool,
     pub addresses: bool,

@@ -22,11 +22,14 @@ met c = walk-meets (c .before .before .before .before .before .loop .inv) (c .be
 settled : (c : tie.Joined2 Inv-loop μ-loop) → c .if2 .dots ≡ settle (c .before .before .before .before .before .before .see-item .result .dot)
 settled c = ⊎-elim (λ w. rw (w .1, w .0 .taken)) (λ w. rw (w .1, w .0 .left)) (c .if2 .came)
 
+is-later-requires : tie.Need-is-later-requires Inv-loop μ-loop
+is-later-requires c κs = search needs
+
 start-format-requires : tie.Need-start-format-requires Inv-loop μ-loop
 start-format-requires c κs = search needs
 
 loop-holds : tie.Need-loop-holds Inv-loop μ-loop
-loop-holds c = rw (c .start-format .ensures) (walk-starts _ _ _ _)
+loop-holds c = rw (c .start-format .ensures, c .before .is-later .ensures) (walk-starts _ _ _ _)
 
 shared-slice-read-if1 : tie.Need-shared-slice-read-if1 Inv-loop μ-loop
 shared-slice-read-if1 c = search needs
@@ -97,6 +100,7 @@ read-items-spec =
     (tie.spec
     Inv-loop
     μ-loop
+    is-later-requires
     start-format-requires
     loop-holds
     shared-slice-read-if1
