@@ -4,11 +4,11 @@ use mathlib.Core.Bool.{Bool, true, false, cond}
 use mathlib.Core.List.{List, [], _∷_}
 use mathlib.Core.Logic.{_⊎_, inl, inr}
 use Prim.Native.Nat.{ℕ, zero, suc, _+_, _≤_, _<_}
-use native.Mathlib.Nat.{le-refl}
+use native.Mathlib.Nat.{le-refl, le-of-suc-le-suc}
 use native.Mathlib.Decide.{decLt}
 use native.Mathlib.Omega.{arith}
 use lib.Dec.{eqb, ltb}
-use lib.ListN.{length, set, replicate, length-set, length-replicate, getD-replicate}
+use lib.ListN.{length, getD, set, replicate, length-set, length-replicate}
 use lib.Seq.{getD-set-same, getD-set-other, ext-getD}
 use borrow.Author.Tests.{eqb-true, eqb-false, ne-eqb, ltb-true, ltb-false}
 use Rattle.rows.specs.Kept.{KeptRow}
@@ -21,23 +21,35 @@ use Rattle.parts.specs.Items.{leadOf, letterAt, Leads, dueAt}
 
 -- ---- letters that lead to their items
 
+-- past its end too
+all-alike : (n i a : ℕ) → getD (replicate n a) i a ≡ a
+all-alike zero i a = refl
+all-alike (suc n) zero a = refl
+all-alike (suc n) (suc i) a = all-alike n i a
+
+-- within a list, what would stand past its end is of no account
+pub lead-within : (leads : List ℕ) (c : ℕ) → c < length leads → getD leads c 0 ≡ leadOf leads c
+lead-within [] c l = absurd (omega (arith, l))
+lead-within (k ∷ leads) zero l = refl
+lead-within (k ∷ leads) (suc c) l = lead-within leads c (le-of-suc-le-suc l)
+
 module _ (f : Format) where
   -- the letters of the first k items lead to them, and all other characters nowhere
   pub record Led (leads : List ℕ) (k : ℕ) : Type 0 where
     pub all : 256 ≡ length leads
     pub own : (i : ℕ) → i < k → leadOf leads (letterAt f i) ≡ i
-    pub others : (c : ℕ) → c < 256 → ((i : ℕ) → i < k → letterAt f i ≡ c → ⊥) → leadOf leads c ≡ 22
+    pub others : (c : ℕ) → ((i : ℕ) → i < k → letterAt f i ≡ c → ⊥) → leadOf leads c ≡ 22
 
   pub led-none : (leads : List ℕ) → leads ≡ replicate 256 22 → Led leads 0
   led-none leads e =
       record {
         all = sym (ap length e ∙ length-replicate {A = ℕ} 256 22);
         own = λ i l. absurd (omega (arith, l));
-        others = λ c l n. ap (λ x. leadOf x c) e ∙ getD-replicate 256 c 22 0 l;
+        others = λ c n. ap (λ x. leadOf x c) e ∙ all-alike 256 c 22;
       }
 
   pub led-all : {leads : List ℕ} {k : ℕ} → Led leads k → k ≡ f .count → Leads f leads
-  led-all g e = record { all = g .all; own = λ i l. g .own i (omega (arith, l, e)); others = λ c l n. g .others c l (λ i m. n i (omega (arith, m, e))) }
+  led-all g e = record { all = g .all; own = λ i l. g .own i (omega (arith, l, e)); others = λ c n. g .others c (λ i m. n i (omega (arith, m, e))) }
 
   module _ (h : Facts f) where
     apart : (i k : ℕ) → i < k → k < f .count → letterAt f i ≡ letterAt f k → ⊥
@@ -50,23 +62,23 @@ module _ (f : Format) where
         record {
           all = g .all ∙ sym (length-set leads (letterAt f k) k);
           own = own;
-          others = λ c l n. getD-set-other leads (letterAt f k) c k 0 (λ e. n k (omega arith) (sym e)) ∙ g .others c l (λ i j. n i (omega (arith, j)));
+          others = λ c n. getD-set-other leads (letterAt f k) c k 22 (λ e. n k (omega arith) (sym e)) ∙ g .others c (λ i j. n i (omega (arith, j)));
         }
       where
         own : (i : ℕ) → i < k + 1 → leadOf (set leads (letterAt f k) k) (letterAt f i) ≡ i
         own i l =
             elim (decLt i k) [
-              | yes j ↦ getD-set-other leads (letterAt f k) (letterAt f i) k 0 (apart i k j m) ∙ g .own i j
-              | no j ↦ let e : i ≡ k = omega (arith, l, j) in rw e (getD-set-same leads (letterAt f k) k 0 (omega (arith, b, g .all)))
+              | yes j ↦ getD-set-other leads (letterAt f k) (letterAt f i) k 22 (apart i k j m) ∙ g .own i j
+              | no j ↦ let e : i ≡ k = omega (arith, l, j) in rw e (getD-set-same leads (letterAt f k) k 22 (omega (arith, b, g .all)))
             ]
 
 -- one possible result: a Format's letters lead in one way
 module _ (f : Format) where
-  abbrev Sought : ℕ → ℕ → Type 0
+  abbrev pub Sought : ℕ → ℕ → Type 0
   Sought c k = ((i : ℕ) × (i < k) × (letterAt f i ≡ c)) ⊎ ((i : ℕ) → i < k → letterAt f i ≡ c → ⊥)
 
   -- whether a character is the letter of one of the first k items
-  sought : (c k : ℕ) → Sought c k
+  pub sought : (c k : ℕ) → Sought c k
   sought c zero = inr (λ i l e. absurd (omega (arith, l)))
   sought c (suc k) = further k (eqb (letterAt f k) c) refl (sought c k)
     where
@@ -80,12 +92,12 @@ module _ (f : Format) where
           ])
 
   module _ {a b : List ℕ} (g : Leads f a) (h : Leads f b) where
-    lead-one : (c : ℕ) → c < 256 → Sought c (f .count) → leadOf a c ≡ leadOf b c
-    lead-one c l (inl s) = rw (← s .2) (g .own (s .0) (s .1) ∙ sym (h .own (s .0) (s .1)))
-    lead-one c l (inr n) = g .others c l n ∙ sym (h .others c l n)
+    lead-one : (c : ℕ) → Sought c (f .count) → leadOf a c ≡ leadOf b c
+    lead-one c (inl s) = rw (← s .2) (g .own (s .0) (s .1) ∙ sym (h .own (s .0) (s .1)))
+    lead-one c (inr n) = g .others c n ∙ sym (h .others c n)
 
     pub one-leads : a ≡ b
-    one-leads = ext-getD 0 a b (sym (g .all) ∙ h .all) (λ c l. lead-one c (omega (arith, l, g .all)) (sought c (f .count)))
+    one-leads = ext-getD 22 a b (sym (g .all) ∙ h .all) (λ c l. lead-one c (sought c (f .count)))
 
 -- ---- the item that is due at a front
 

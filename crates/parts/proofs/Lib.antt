@@ -2,4 +2,5 @@
 pub mod Entering
 pub mod Marks
 pub mod Leading
+pub mod BareFronts
 pub mod Reaching

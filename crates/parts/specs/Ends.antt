@@ -1,10 +1,10 @@
--- An end, and the head of a tape (document 01, "Four stages", 4; refusals 8, 10 and 14).
+-- An end, and the head of a tape (documents 01, "Four stages", 4, and 02, 5/12; refusals 8, 9, 10 and 14).
 use Prim.Native.Nat.{ℕ}
-use mathlib.Core.Bool.{cond}
+use mathlib.Core.Bool.{Bool, cond}
 use mathlib.Core.List.{List, [], _∷_}
 use lib.Dec.{eqb}
 use lib.ListN.{length}
-use Rattle.rows.specs.Answer.{Answer, refused, _>>_}
+use Rattle.rows.specs.Answer.{Answer, taken, refused, _>>=_, _>>_}
 use Rattle.rows.specs.Stages.{judged}
 use Rattle.rows.specs.Kept.{KeptRow, kept}
 use Rattle.words.specs.declared.Wanted.{Wanted}
@@ -28,6 +28,6 @@ headAt len rs = cond (fronts 37 rs) (ended len Wanted.Head (behind rs)) (wrong l
 unfoldable pub entered : List ℕ → Answer (Behind ℕ)
 entered t = judged t >> headAt (length t) (kept t)
 
--- the end of a block, or 10 at any other row
-abbrev pub closeAt : ℕ → List KeptRow → Answer (Behind ℕ)
-closeAt len rs = ended len Wanted.End rs
+-- the end of a block, or 10 at any other row; where the block is empty, with neither number nor word, 9 at its LF
+abbrev pub closeAt : ℕ → Bool → List KeptRow → Answer (Behind ℕ)
+closeAt len empty rs = ended len Wanted.End rs >>= λ e. cond empty (refused (wrongBy Wanted.Start) (e .value)) (taken e)

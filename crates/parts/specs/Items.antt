@@ -1,14 +1,15 @@
--- How an item stands, by how its word is known, and which item is due next (documents 01, "Four stages", and 02, 2/12).
+-- How an item stands, by how its word is known, which item is due next, and where a block without number may begin (documents 01, "Four stages", and 02, 2/12
+-- and 5/12).
 use Prim.Native.Nat.{ℕ, _<_}
 use mathlib.Core.Path.{_≡_}
-use mathlib.Core.Bool.{Bool, true, cond}
+use mathlib.Core.Bool.{Bool, true, false, _&&_, _||_, not, cond}
 use mathlib.Core.List.{List, [], _∷_}
-use lib.Dec.{ltb}
+use lib.Dec.{eqb, ltb}
 use lib.ListN.{length, getD}
 use Rattle.rows.specs.Kept.{KeptRow}
 use Rattle.shorthand.specs.declared.Item.{Item}
 use Rattle.shorthand.specs.declared.Format.{Format}
-use Rattle.shorthand.specs.Layout.{blank, Way, by-letter, by-both, by-tab}
+use Rattle.shorthand.specs.Layout.{blank, itemsOf, Way, by-letter, by-both, by-tab, wayOf}
 use Rattle.words.specs.Figures.{fronts, behind, frontPlace, figureNext}
 use Rattle.parts.specs.declared.Rules.{Rules}
 
@@ -57,13 +58,13 @@ letterAt f k = itemAt f k .letter
 
 -- where a character leads
 abbrev pub leadOf : List ℕ → ℕ → ℕ
-leadOf leads c = getD leads c 0
+leadOf leads c = getD leads c 22
 
 -- each of the 256 characters leads to the item with that letter, or to 22, where there is none
 pub record Leads (f : Format) (leads : List ℕ) : Type 0 where
   pub all : 256 ≡ length leads
   pub own : (k : ℕ) → k < f .count → leadOf leads (letterAt f k) ≡ k
-  pub others : (c : ℕ) → c < 256 → ((k : ℕ) → k < f .count → letterAt f k ≡ c → ⊥) → leadOf leads c ≡ 22
+  pub others : (c : ℕ) → ((k : ℕ) → k < f .count → letterAt f k ≡ c → ⊥) → leadOf leads c ≡ 22
 
 -- without tabs an item before item k is not due again
 abbrev pub dueFrom : List ℕ → ℕ → List KeptRow → ℕ
@@ -74,8 +75,34 @@ dueFrom leads k (r ∷ rs) = cond (ltb (leadOf leads (r .char)) k) 22 (leadOf le
 unfoldable pub dueAt : List ℕ → Bool → ℕ → List KeptRow → ℕ
 dueAt leads dots k rs = cond dots k (dueFrom leads k rs)
 
+-- ---- a block without number
+
+-- what an item's turn begins with: its HT, or without tabs its letter
+abbrev pub turn : Way → Item → ℕ
+turn by-letter it = it .letter
+turn by-both it = 9
+turn by-tab it = 9
+
+abbrev pub anyTurn : Way → List Item → List KeptRow → Bool
+anyTurn y [] rs = false
+anyTurn y (it ∷ its) rs = fronts (turn y it) rs || anyTurn y its rs
+
+-- LF, or CR before it
+abbrev pub endNext : List KeptRow → Bool
+endNext rs = fronts 10 rs || fronts 13 rs
+
+-- where the Format allows it a block without number may begin with an item's turn; or with an end, which finds it empty
+abbrev pub bareIn : Format → List KeptRow → Bool
+bareIn f rs = f .unnumbered && (anyTurn (wayOf f) (itemsOf f) rs || endNext rs)
+
+-- the same by what a step knows: with tabs the front is HT and there is an item, without them it leads to one
+unfoldable pub bareBy : Rules → List ℕ → List KeptRow → Bool
+bareBy u leads [] = false
+bareBy u leads (r ∷ rs) =
+    u .unnumbered && (((not (u .dots) || eqb (r .char) 9) && ltb (dueAt leads (u .dots) 0 (r ∷ rs)) (u .items)) || endNext (r ∷ rs))
+
 -- ---- what a step has to know of a Format
 
 -- a further fact of a Format goes in here, and no loop over steps sees it
 abbrev pub rulesOf : Format → Rules
-rulesOf f = record { digits = f .sequence; dots = f .dots; addresses = f .addresses; items = f .count }
+rulesOf f = record { unnumbered = f .unnumbered; digits = f .sequence; dots = f .dots; addresses = f .addresses; items = f .count }

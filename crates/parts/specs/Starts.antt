@@ -1,4 +1,4 @@
--- The start of a block: "/" or not, N or ":", and the digits of its number (document 01, "Four stages"; refusals 9 and 14).
+-- The start of a block: "/" or not, and N or ":" with the digits of its number, or no number (documents 01, "Four stages", and 02, 5/12; refusals 9 and 14).
 use Prim.Native.Nat.{ℕ}
 use mathlib.Core.Bool.{Bool, true, false, _||_, cond}
 use mathlib.Core.List.{List}
@@ -12,15 +12,23 @@ use Rattle.parts.specs.declared.Begun.{Begun}
 -- exactly the digits of the N item
 abbrev pub digitsAt : ℕ → ℕ → Bool → Bool → List KeptRow → Answer (Behind Begun)
 digitsAt len n skip alignment rs =
-    figures len Wanted.Start Nothing n rs >>= λ v. taking (record { skip = skip; alignment = alignment; sequence = v .value }) (v .rest)
+    figures len Wanted.Start Nothing n rs >>= λ v. taking (record { skip = skip; alignment = alignment; numbered = true; sequence = v .value }) (v .rest)
 
--- behind N, or ":" for alignment
-abbrev pub numberAt : ℕ → ℕ → Bool → List KeptRow → Answer (Behind Begun)
-numberAt len n skip rs = cond (fronts 78 rs || fronts 58 rs) (digitsAt len n skip (fronts 58 rs) (behind rs)) (wrong len Wanted.Start rs)
+-- no number, and so no alignment
+abbrev pub unnumbered : Bool → Begun
+unnumbered skip = record { skip = skip; alignment = false; numbered = false; sequence = 0 }
 
--- "/" for optional skip, or not
-unfoldable pub startAt : ℕ → ℕ → List KeptRow → Answer (Behind Begun)
-startAt len n rs = cond (fronts 47 rs) (numberAt len n true (behind rs)) (numberAt len n false rs)
+-- a block without number, where one may begin so, or 9
+abbrev pub bareAt : ℕ → (List KeptRow → Bool) → Bool → List KeptRow → Answer (Behind Begun)
+bareAt len bare skip rs = cond (bare rs) (taking (unnumbered skip) rs) (wrong len Wanted.Start rs)
+
+-- behind N, or ":" for alignment; or no number
+abbrev pub numberAt : ℕ → ℕ → (List KeptRow → Bool) → Bool → List KeptRow → Answer (Behind Begun)
+numberAt len n bare skip rs = cond (fronts 78 rs || fronts 58 rs) (digitsAt len n skip (fronts 58 rs) (behind rs)) (bareAt len bare skip rs)
+
+-- "/" for optional skip, or not; whether a block without number may begin at some rows is given
+unfoldable pub startAt : ℕ → ℕ → (List KeptRow → Bool) → List KeptRow → Answer (Behind Begun)
+startAt len n bare rs = cond (fronts 47 rs) (numberAt len n bare true (behind rs)) (numberAt len n bare false rs)
 
 -- the rows behind "/", where it stands
 abbrev pub pastSlash : List KeptRow → List KeptRow

@@ -55,11 +55,23 @@ fn find_lf(tape: &[u8], front: Next, wanted: Wanted) -> EndFound
     }
 }
 
-// The end of a block.
-pub fn find_end(tape: &[u8], front: Next) -> EndFound
-    ensures { λ r. ⌜ foundTold (now (tape .entry)) r ≡ closeAt (length (now (tape .entry))) (rowsAt (now (tape .entry)) front) ⌝ }
+// The end of a block; one that is empty is refused where it ends.
+pub fn find_end(tape: &[u8], empty: bool, front: Next) -> EndFound
+    ensures { λ r. ⌜ foundTold (now (tape .entry)) r ≡ closeAt (length (now (tape .entry))) empty (rowsAt (now (tape .entry)) front) ⌝ }
 {
-    find_lf(tape, front, Wanted::End)
+    match find_lf(tape, front, Wanted::End) {
+        EndFound::At(lf, after) => {
+            if empty {
+                EndFound::Refused(Refusal {
+                    number: wrong_number(Wanted::Start),
+                    place: lf,
+                })
+            } else {
+                EndFound::At(lf, after)
+            }
+        }
+        EndFound::Refused(r) => EndFound::Refused(r),
+    }
 }
 
 // The end of the head, with the row behind it.

@@ -87,6 +87,7 @@ pub fn rules_of(format: Format) -> Rules
     ensures { λ r. ⌜ r ≡ rulesOf format ⌝ }
 {
     Rules {
+        unnumbered: format.unnumbered,
         digits: format.sequence as usize,
         dots: format.dots,
         addresses: format.addresses,

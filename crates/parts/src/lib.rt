@@ -18,10 +18,11 @@ pub enum EndRead {
     Refused(Refusal),
 }
 
-// What a block begins with.
+// What a block begins with. The number of one that has none is 0.
 pub struct Begun {
     pub skip: bool,
     pub alignment: bool,
+    pub numbered: bool,
     pub sequence: u64,
 }
 
@@ -37,8 +38,9 @@ pub enum Reach {
     At(usize, Next),
 }
 
-// What a step has to know of a Format: N's digits, tabs or none, whether words have addresses, and how many items there are.
+// What a step has to know of a Format: whether a block may have no number, N's digits, tabs or none, whether words have addresses, and how many items there are.
 pub struct Rules {
+    pub unnumbered: bool,
     pub digits: usize,
     pub dots: bool,
     pub addresses: bool,

@@ -18,8 +18,9 @@ use Rattle.shorthand.specs.Edition.{letters}
 use Rattle.speeds.proofs.Answers.{read-short}
 use Rattle.words.specs.declared.Value.{Value}
 use Rattle.words.specs.declared.Word.{Word}
+use Rattle.parts.specs.declared.Begun.{Begun}
 use Rattle.reading.specs.declared.Block.{Block}
-use Rattle.reading.specs.Relation.{digits, Punched, in-full, front, back, Signed, never, plus, minus, plus-stands, minus-stands, plus-missing, Data, number, speed, dimension, address, Worded, word, tab, Words, done, out, here, End, lf, cr-lf, skipRows, Blocked, block}
+use Rattle.reading.specs.Relation.{digits, Punched, in-full, front, back, Signed, never, plus, minus, plus-stands, minus-stands, plus-missing, Data, number, speed, dimension, address, Worded, word, tab, Words, done, out, here, End, lf, cr-lf, skipRows, startRows, Start, counted, Blocked, block}
 use Rattle.reading.proofs.DigitRows.{Digit, digits-digit, leading-digit, trailing-digit}
 use Rattle.reading.proofs.Ranges.{allFrom, in-range, in-list}
 
@@ -86,8 +87,12 @@ letter-bare : (alignment : Bool) → T (bare (cond alignment 58 78))
 letter-bare true = tt
 letter-bare false = tt
 
+start-bare : {f : Format} {s : Begun} → Start f s → Bare (startRows (f .sequence) s)
+start-bare {f} (counted {n} skip alignment h) =
+    joined (skipRows skip) _ (skip-bare skip) (letter-bare alignment, digits-bare (digits (f .sequence) n) (digits-digit (f .sequence) n h))
+start-bare (Start.bare skip h) = joined (skipRows skip) [] (skip-bare skip) tt
+
 -- each is one of the 50, and neither NUL, DEL, "(" nor ")"
 pub block-bare : {f : Format} {b : Block} {r : List ℕ} → Facts f → Blocked f b r → Bare r
-block-bare {f} facts (block {n = n} {r = r} {e = e} skip alignment h w x) =
-    joined (skipRows skip) _ (skip-bare skip)
-    (letter-bare alignment, joined (digits (f .sequence) n) (r ++ e) (digits-bare (digits (f .sequence) n) (digits-digit (f .sequence) n h)) (joined r e (words-bare (facts .fair) w) (end-bare x)))
+block-bare {f} facts (block {s} {r = r} {e = e} start some w x) =
+    joined (startRows (f .sequence) s) (r ++ e) (start-bare start) (joined r e (words-bare (facts .fair) w) (end-bare x))

@@ -15,7 +15,7 @@ use Rattle.rows.proofs.KeptRows.{kept-chars}
 use Rattle.rows.proofs.TapeParts.{divided-at}
 use Rattle.shorthand.specs.declared.Format.{Format}
 use Rattle.reading.specs.declared.Block.{Block}
-use Rattle.reading.specs.Relation.{End, lf, cr-lf, skipRows, sequenceRows, Blocked, block, chars}
+use Rattle.reading.specs.Relation.{End, lf, cr-lf, startRows, Blocked, block, chars}
 use Rattle.reading.specs.Parse.{Entry}
 use Rattle.reading.specs.Answers.{nowhere, programAt, entryRows}
 use Rattle.reading.proofs.Outcomes.{chars-append}
@@ -36,8 +36,7 @@ end-feeds lf = ([], refl)
 end-feeds cr-lf = (13 ∷ [], refl)
 
 block-feeds : {f : Format} {b : Block} {x : List ℕ} → Blocked f b x → Feeds x
-block-feeds {f} (block {n = n} {r = r} {e = e} skip alignment l ws h) =
-    feeds-behind (skipRows skip) _ (feeds-behind (sequenceRows (f .sequence) alignment n) _ (feeds-behind r e (end-feeds h)))
+block-feeds {f} (block {s} {r = r} {e = e} start some ws h) = feeds-behind (startRows (f .sequence) s) _ (feeds-behind r e (end-feeds h))
 
 one-last : (x y : List ℕ) (c d : ℕ) → x ++ (c ∷ []) ≡ y ++ (d ∷ []) → c ≡ d
 one-last [] [] c d e = cc

@@ -1,6 +1,6 @@
 -- A walk that counts the blocks and holds where the rows of block w stand.
 use mathlib.Core.Path.{_≡_, refl, sym, ap, _∙_}
-use mathlib.Core.Bool.{cond}
+use mathlib.Core.Bool.{false, cond}
 use mathlib.Core.List.{List, [], _∷_, _++_}
 use Prim.Native.Nat.{ℕ, _+_, _≤_, _<_}
 use native.Mathlib.Nat.{le-refl}
@@ -23,10 +23,11 @@ use mathlib.Core.Logic.{⊎-elim}
 use Rattle.reading.specs.Parse.{Entry, blocksAt}
 use Rattle.reading.specs.Answers.{nowhere, sizeOf}
 use Rattle.reading.specs.Front.{partOf, partIn, Rising}
+use Rattle.parts.specs.Starts.{unnumbered}
 use Rattle.parts.specs.Items.{itemAt}
 use Rattle.steps.specs.Steps.{Spot, Moved, between, stepAt}
 use Rattle.reading.proofs.BlockWalk.{nth-more}
-use Rattle.reading.proofs.StepLaws.{Under, entryOf, Walk, walk-starts, Further, Goes, goes, effort}
+use Rattle.reading.proofs.StepLaws.{more-come, Under, entryOf, Walk, walk-starts, Further, Goes, goes, effort}
 
 module _ (w n : ℕ) (f : Format) (first : ℕ) (start : List KeptRow) where
   abbrev all : Answer (List Entry)
@@ -47,7 +48,7 @@ module _ (w n : ℕ) (f : Format) (first : ℕ) (start : List KeptRow) where
 
   pub counts-none : (part : Part) → part ≡ partOf nowhere → Rising n first start → Counts first (between start) 0 part
   counts-none part e h =
-      let b : Begun = record { skip = nowhere .block .skip; alignment = nowhere .block .alignment; sequence = 0 } in
+      let b : Begun = unnumbered false in
       record { done = []; begun = b; words = []; fuel = length start; walk = walk-starts n f (length start) first start b h; counted = refl; asked = e }
 
   -- the walk still counts, nearer to the end
@@ -70,7 +71,7 @@ module _ (w n : ℕ) (f : Format) (first : ℕ) (start : List KeptRow) where
     on {begun} {words} {fuel} o = (record { done = g .done; begun = begun; words = words; fuel = fuel; walk = o .walk; counted = g .counted; asked = g .asked }, o .nearer)
 
     pub counts-on : (m : Moved) → m ≡ stepAt n u leads (itemAt f (s .item)) s → (e : Event) → m .event ≡ e → Behind from s count part (m .spot) e
-    counts-on m q e r = by e (goes n f (length start) first start h (g .walk) (λ z l. omega (arith, l, g .walk .enough (le-refl _))) m q e r)
+    counts-on m q e r = by e (goes n f (length start) first start h (g .walk) (more-come n f (length start) first start (g .walk) (le-refl _)) m q e r)
       where
         by : (v : Event) → Goes n f (length start) first start (g .done) (g .begun) (g .words) (g .fuel) from s (m .spot) v → Behind from s count part (m .spot) v
         by Finished o = (ap taken (g .counted) ∙ sym (ap sizeOf (o .0)), g .asked ∙ sym (ap (partIn w) (o .0)))

@@ -16,21 +16,22 @@ use Rattle.parts.specs.declared.Rules.{Rules}
 use Rattle.steps.specs.declared.Stage.the-variants.{Between}
 use Rattle.steps.specs.declared.Event.{Event}
 use Rattle.steps.specs.declared.Event.the-variants.{Finished, Opened, Out, Read, Closed}
-use Rattle.parts.specs.Starts.{startAt}
+use Rattle.parts.specs.Starts.{unnumbered, startAt}
 use Rattle.parts.specs.Items.{itemAt}
 use Rattle.steps.specs.Steps.{Spot, Moved, between, stepAt}
 use Rattle.reading.specs.declared.Block.{Block}
-use Rattle.reading.specs.Record.{emptyBlock}
+use Rattle.parts.proofs.BareFronts.{bare-none}
+use Rattle.reading.specs.Record.{blockOf, emptyBlock}
 use Rattle.reading.specs.Record.{blank as noWord}
-use Rattle.reading.specs.Parse.{BlockRead, built, entry, blockAt, blocksAt}
+use Rattle.reading.specs.Parse.{BlockRead, entry, blockAt, blocksAt}
 use Rattle.reading.specs.Front.{blockOnly, blockIn, Rising}
 use Rattle.reading.proofs.StepLaws.{Under, openIn, Walk, walk-starts, walk-full, Goes, goes, effort}
 
 -- one word more in the block
 abbrev pub oneMore : Block → Word → Block
-oneMore b w = record { skip = b .skip; alignment = b .alignment; sequence = b .sequence; count = b .count + 1; words = set (b .words) (b .count) w }
+oneMore b w = record { skip = b .skip; alignment = b .alignment; numbered = b .numbered; sequence = b .sequence; count = b .count + 1; words = set (b .words) (b .count) w }
 
-stored-word : (a : Begun) (ws : List Word) (w : Word) (b r : Block) → b ≡ built a ws → length ws < 22 → r ≡ oneMore b w → r ≡ built a (ws ++ (w ∷ []))
+stored-word : (a : Begun) (ws : List Word) (w : Word) (b r : Block) → b ≡ blockOf a ws → length ws < 22 → r ≡ oneMore b w → r ≡ blockOf a (ws ++ (w ∷ []))
 stored-word a ws w b r e l s =
     let more : length ws + 1 ≡ length (ws ++ (w ∷ [])) = simp length-append in
     s ∙ rw (e, more, padded-set 22 noWord w ws l)
@@ -38,7 +39,7 @@ stored-word a ws w b r e l s =
 -- the first block, alone
 none-read : (n : ℕ) (f : Format) → emptyBlock ≡ valueOr emptyBlock (blockOnly (blockAt n f []))
 unfolding blockAt startAt
-none-read n f = refl
+none-read n f = rw (bare-none f)
 
 pub one-block : (n : ℕ) (f : Format) (from : ℕ) (rs : List KeptRow) → blockIn 0 (blocksAt 1 n f from rs) ≡ valueOr emptyBlock (blockOnly (blockAt n f rs))
 unfolding blocksAt
@@ -55,11 +56,11 @@ module _ (n : ℕ) (f : Format) (from : ℕ) (start : List KeptRow) where
     pub words : List Word
     pub fuel : ℕ
     pub walk : Walk n f 1 from start [] begun words fuel from s
-    pub stored : block ≡ built begun words
+    pub stored : block ≡ blockOf begun words
 
   pub gathers-none : (block : Block) → block ≡ emptyBlock → Rising n from start → Gathers (between start) block
   gathers-none block e h =
-      let b : Begun = record { skip = false; alignment = false; sequence = 0 } in
+      let b : Begun = unnumbered false in
       record { begun = b; words = []; fuel = 1; walk = walk-starts n f 1 from start b h; stored = e }
 
   -- nearer to the end
@@ -69,7 +70,7 @@ module _ (n : ℕ) (f : Format) (from : ℕ) (start : List KeptRow) where
   -- what holds behind a step
   abbrev pub After : Spot → Block → Spot → Event → Type 0
   After s block v Finished = emptyBlock ≡ blockIn 0 (blocksAt 1 n f from start)
-  After s block v (Opened b) = ((next : Block) → next ≡ built b [] → Gathers v next) × Nearer v s
+  After s block v (Opened b) = ((next : Block) → next ≡ blockOf b [] → Gathers v next) × Nearer v s
   After s block v Out = Gathers v block × Nearer v s
   After s block v (Read w) = (block .count < 22) × ((next : Block) → next ≡ oneMore block w → Gathers v next) × Nearer v s
   After s block v (Closed lf) = block ≡ blockIn 0 (blocksAt 1 n f from start)

@@ -10,6 +10,7 @@ pub mod RowsAhead
 pub mod DigitRows
 pub mod WordTakes
 pub mod WordsTake
+pub mod BareStarts
 pub mod BlockTakes
 pub mod Complete
 -- sound: what is taken stands as its rows

@@ -1,26 +1,28 @@
 -- What the parsers of an end, a block, the head and all blocks read.
 use Prim.Native.Nat.{ℕ, zero, suc, _+_, _^_, _≤_, _<_, zero-le, suc-le-suc}
-use mathlib.Core.Path.{_≡_, refl, sym, ap, _∙_}
+use mathlib.Core.Path.{_≡_, refl, sym, ap, _∙_, subst}
 use mathlib.Core.Logic.{_⊎_, inl, inr}
-use mathlib.Core.Bool.{Bool, true, false, _||_, cond, false≢true}
+use mathlib.Core.Bool.{Bool, true, false, _&&_, _||_, cond, false≢true}
 use mathlib.Core.List.{List, [], _∷_, _++_, append-nil, append-assoc}
 use native.Mathlib.Nat.{le-refl}
 use native.Mathlib.Omega.{arith}
 use lib.ListN.{length, length-append, length-map}
 use lib.Dec.{eqb, lit≤}
 use borrow.Author.Tests.{eqb-true}
-use Rattle.rows.specs.Answer.{taken}
+use Rattle.rows.specs.Answer.{taken, refused}
 use Rattle.rows.specs.Kept.{KeptRow}
 use Rattle.rows.specs.Passes.{Every}
 use Rattle.shorthand.specs.declared.Missing.the-variants.{Nothing}
 use Rattle.shorthand.specs.declared.Format.{Format}
 use Rattle.shorthand.specs.Layout.{itemsOf, wayOf}
 use Rattle.reading.specs.declared.Block.{Block}
-use Rattle.reading.specs.Relation.{End, lf, cr-lf, skipRows, sequenceRows, Blocked, block, chars}
+use Rattle.reading.specs.Relation.{End, lf, cr-lf, sequenceRows, startRows, Start, counted, bare, Blocked, block, chars}
+use Rattle.reading.specs.Record.{isEmpty}
 use Rattle.parts.specs.declared.Begun.{Begun}
 use Rattle.words.specs.declared.Wanted.{Wanted}
-use Rattle.words.specs.Figures.{Behind, fronts, behind}
-use Rattle.parts.specs.Ends.{afterCR, ended}
+use Rattle.words.specs.Figures.{Behind, wrongBy, fronts, behind}
+use Rattle.parts.specs.Ends.{afterCR, ended, closeAt}
+use Rattle.parts.specs.Items.{bareIn}
 use Rattle.reading.specs.Parse.{BlockRead, blockAt, Entry, blocksAt}
 use Rattle.parts.specs.Ends.{headAt}
 use Rattle.reading.specs.Answers.{programAt}
@@ -70,33 +72,46 @@ lead {P} rs all e = go (fronts 58 rs) refl (either (fronts 78 rs) (fronts 58 rs)
     go false q (inr h) = absurd (false≢true (sym q ∙ h))
 
 -- the rows of a block's start
-abbrev pub StartRows : ℕ → Begun → List KeptRow → Type 0
-StartRows d b s = (b .sequence < 10 ^ d) × (chars s ≡ skipRows (b .skip) ++ sequenceRows d (b .alignment) (b .sequence))
+abbrev pub StartRows : Format → Begun → List KeptRow → Type 0
+StartRows f b s = Start f b × (chars s ≡ startRows (f .sequence) b)
 
-pub start-some : (d : ℕ) (b : Begun) (s : List KeptRow) → StartRows d b s → 0 < length s
-start-some d b s h =
-    let n : length (chars s) ≡ length (skipRows (b .skip)) + length (sequenceRows d (b .alignment) (b .sequence)) = ap length (h .1) ∙ length-append (skipRows (b .skip)) _ in
-    omega (arith, n, length-map s (λ r. r .char))
+first-true : (a b : Bool) → (a && b) ≡ true → a ≡ true
+first-true true b e = refl
+first-true false b e = e
 
-module _ {Q : ℕ → ℕ → Type 0} {P : ℕ → Type 0} {len : ℕ} (t : Table Q P len) (d : ℕ) where
-  -- N or ":" and its digits; no "/" stands among them
+module _ {Q : ℕ → ℕ → Type 0} {P : ℕ → Type 0} {len : ℕ} (t : Table Q P len) (f : Format) where
+  -- N or ":" and its digits, or no number; no "/" stands among them
   number-read : (skip : Bool) (rs : List KeptRow) → Placed P rs
-      → Holds Q (Reads (λ b s. (b .skip ≡ skip) × (b .sequence < 10 ^ d) × (chars s ≡ sequenceRows d (b .alignment) (b .sequence))) rs) (numberAt len d skip rs)
+      → Holds Q (Reads (λ b s. (b .skip ≡ skip) × Start f b × (chars s ≡ sequenceRows (f .sequence) b)) rs) (numberAt len (f .sequence) (bareIn f) skip rs)
   number-read skip rs all =
       holds-cond (fronts 78 rs || fronts 58 rs)
       (λ e. let l = lead rs all e in
       reads-after (l .row ∷ []) (l .split)
-      (reads-then (l .after) (figures-read t Wanted.Start Nothing d (behind rs) (l .after)) λ v ds all₁ p.
-      let full = punched-full p in reads-done (refl, full .0, rw (append-nil ds, l .is, full .1))))
-      (λ e. wrong-told t Wanted.Start rs all)
+      (reads-then (l .after) (figures-read t Wanted.Start Nothing (f .sequence) (behind rs) (l .after)) λ v ds all₁ p.
+      let full = punched-full p in reads-done (refl, counted skip (fronts 58 rs) (full .0), rw (append-nil ds, l .is, full .1))))
+      (λ e. holds-cond (bareIn f rs) (λ q. reads-done (refl, bare skip (first-true (f .unnumbered) _ q), refl)) (λ q. wrong-told t Wanted.Start rs all))
 
-  pub start-read : (rs : List KeptRow) → Placed P rs → Holds Q (Reads (StartRows d) rs) (startAt len d rs)
+  pub start-read : (rs : List KeptRow) → Placed P rs → Holds Q (Reads (StartRows f) rs) (startAt len (f .sequence) (bareIn f) rs)
   unfolding startAt
   start-read rs all =
       holds-cond (fronts 47 rs)
       (λ e. let s = fronted 47 rs all e in
       reads-after (s .row ∷ []) (s .split) (reads-map (λ b u h. (h .1, rw (s .is, h .0, h .2))) (number-read true (behind rs) (s .after))))
       (λ e. reads-map (λ b u h. (h .1, rw (h .0, h .2))) (number-read false rs all))
+
+last-placed : {P : ℕ → Type 0} {p : ℕ} {s : List KeptRow} → Last p s → (rest : List KeptRow) → Placed P (s ++ rest) → P p
+last-placed {P} (last e) rest (next-row h all) = subst P e h
+last-placed (before l) rest (next-row h all) = last-placed l rest all
+
+-- an end, of a block that is not empty
+pub close-read : {Q : ℕ → ℕ → Type 0} {P : ℕ → Type 0} {len : ℕ} → Table Q P len → (empty : Bool) (rs : List KeptRow) → Placed P rs
+    → Holds Q (Reads (λ p s. End (chars s) × Last p s × (empty ≡ false)) rs) (closeAt len empty rs)
+close-read {Q} {P} t empty rs all = holds-bind (ended-read t Wanted.End rs all) λ e k. by empty e k
+  where
+    by : (x : Bool) (e : Behind ℕ) → Reads (λ p s. End (chars s) × Last p s) rs e
+        → Holds Q (Reads (λ p s. End (chars s) × Last p s × (x ≡ false)) rs) (cond x (refused (wrongBy Wanted.Start) (e .value)) (taken e))
+    by true e k = refusal (row-told t Wanted.Start (e .value) (last-placed (k .stands .1) (e .rest) (subst (Placed P) (k .split) all)))
+    by false e k = value (record { took = k .took; split = k .split; stands = (k .stands .0, k .stands .1, refl) })
 
 -- a block's rows, to its LF
 abbrev pub BlockRows : Format → BlockRead → List KeptRow → Type 0
@@ -106,12 +121,11 @@ module _ {Q : ℕ → ℕ → Type 0} {P : ℕ → Type 0} {len : ℕ} (t : Tabl
   pub block-read : (rs : List KeptRow) → Placed P rs → Holds Q (Reads (BlockRows f) rs) (blockAt len f rs)
   unfolding blockAt
   block-read rs all =
-      reads-then all (start-read t (f .sequence) rs all) λ b r all₁ p.
+      reads-then all (start-read t f rs all) λ b r all₁ p.
       reads-then all₁ (words-read t (wayOf f) (itemsOf f) says (b .rest) all₁) λ ws u all₂ h.
-      reads-then all₂ (ended-read t Wanted.End (ws .rest) all₂) λ x s all₃ z.
+      reads-then all₂ (close-read t (isEmpty (b .value) (ws .value)) (ws .rest) all₂) λ x s all₃ z.
       reads-done (
-        rw (append-nil s, chars-append r (u ++ s), chars-append u s, p .1, append-assoc (skipRows (b .value .skip)) _ (chars u ++ chars s))
-            (block (b .value .skip) (b .value .alignment) (p .0) h (z .0)),
+        rw (append-nil s, chars-append r (u ++ s), chars-append u s, p .1) (block (p .0) (z .2) h (z .0)),
         rw (append-nil s) (last-after r (u ++ s) (last-after u s (z .1))),
       )
 

@@ -2,7 +2,7 @@
 use Prim.Native.Nat.{ℕ, _<_}
 use lib.ListN.{length}
 use mathlib.Core.Path.{_≡_}
-use mathlib.Core.Bool.{true}
+use mathlib.Core.Bool.{Bool, true, false}
 use mathlib.Core.List.{List, [], _∷_, _++_, map}
 use Rattle.rows.specs.Answer.{Answer, taken, refused}
 use Rattle.rows.specs.Kept.{KeptRow}
@@ -18,7 +18,7 @@ use Rattle.words.specs.declared.Wanted.{Wanted}
 use Rattle.words.specs.Figures.{Behind}
 use Rattle.parts.specs.Ends.{closeAt}
 use Rattle.words.specs.Data.{wordAt}
-use Rattle.parts.specs.Items.{steps, begins}
+use Rattle.parts.specs.Items.{steps, begins, bareIn}
 use Rattle.reading.specs.Parse.{BlockRead, blockAt, Entry}
 use Rattle.parts.specs.Ends.{headAt}
 use Rattle.reading.specs.Answers.{programAt}
@@ -29,7 +29,7 @@ use Rattle.rows.proofs.Outcomes.{Holds, refusal, value, of-taken}
 use Rattle.reading.proofs.Outcomes.{Reads, Table, Placed, no-row, next-row, chars-append, reads-map}
 use Rattle.reading.proofs.ReadData.{Sayable}
 use Rattle.reading.proofs.ReadWords.{Stepped, steps-over, Addressed, address-over, word-read}
-use Rattle.reading.proofs.ReadBlocks.{Last, ended-read, start-some, start-read, BlockRows, block-read, HeadRows, head-read, Entries, ProgramRows, program-read}
+use Rattle.reading.proofs.ReadBlocks.{Last, StartRows, start-read, close-read, BlockRows, block-read, HeadRows, head-read, Entries, ProgramRows, program-read}
 
 -- ---- where nothing is asked of refusals
 
@@ -72,8 +72,8 @@ module _ (len : ℕ) (rs : List KeptRow) where
   any-table : Table AnyRefusal AnyPlace len
   any-table = record { at-row = λ n l h p a. tt; no-head = tt; cut = tt }
 
-  pub start-rows : (digits : ℕ) (x : Behind Begun) → startAt len digits rs ≡ taken x → Reads (λ b s. 0 < length s) rs x
-  start-rows digits x e = of-taken (reads-map (start-some digits) (start-read any-table digits rs (any-rows rs))) e
+  pub start-rows : (f : Format) (x : Behind Begun) → startAt len (f .sequence) (bareIn f) rs ≡ taken x → Reads (StartRows f) rs x
+  start-rows f x e = of-taken (start-read any-table f rs (any-rows rs)) e
 
   pub step-rows : (y : Way) → steps y rs ≡ true → Stepped AnyPlace y rs
   step-rows y e = steps-over y rs (any-rows rs) e
@@ -84,8 +84,8 @@ module _ (len : ℕ) (rs : List KeptRow) where
   pub word-rows : (it : Item) (a : ℕ) (x : Behind Word) → wordAt len it a rs ≡ taken x → Reads (λ w s. (y : Way) → Worded y it w (address y it ++ chars s)) rs x
   word-rows it a x e = of-taken (word-read any-table it (any-kind (it .kind)) a tt rs (any-rows rs)) e
 
-  pub end-rows : (x : Behind ℕ) → closeAt len rs ≡ taken x → Reads (λ p s. End (chars s) × Last p s) rs x
-  end-rows x e = of-taken (ended-read any-table Wanted.End rs (any-rows rs)) e
+  pub end-rows : (empty : Bool) (x : Behind ℕ) → closeAt len empty rs ≡ taken x → Reads (λ p s. End (chars s) × Last p s × (empty ≡ false)) rs x
+  end-rows empty x e = of-taken (close-read any-table empty rs (any-rows rs)) e
 
 -- ---- soundness
 

@@ -1,12 +1,12 @@
 -- What a step does to the answer, one law for each kind of step. Whoever walks over blocks needs these laws alone.
 use mathlib.Core.Path.{_≡_, refl, sym, ap, subst, _∙_}
-use mathlib.Core.Bool.{Bool, true, false, cond}
+use mathlib.Core.Bool.{Bool, true, false, not, cond}
 use mathlib.Core.List.{List, [], _∷_, _++_, append-assoc, append-nil}
 use Prim.Native.Nat.{ℕ, zero, suc, _+_, _-_, _*_, _≤_, _<_, zero-le}
 use native.Mathlib.Numerals.{add-one}
 use native.Mathlib.Omega.{arith}
 use lib.Dec.{ltb}
-use lib.ListN.{length, drop, length-append}
+use lib.ListN.{length, drop, length-append, length-map}
 use borrow.Author.Tests.{ltb-true, ltb-false}
 use Rattle.rows.specs.Answer.{Answer, taken, refused, refusal, _>>=_}
 use Rattle.rows.specs.Kept.{KeptRow}
@@ -16,7 +16,7 @@ use Rattle.shorthand.specs.Layout.{itemsOf, wayOf}
 use Rattle.shorthand.specs.Facts.{Facts}
 use Rattle.shorthand.proofs.FormatItems.{widths-at}
 use Rattle.words.specs.declared.Word.{Word}
-use Rattle.words.specs.Figures.{Behind, taking, frontPlace}
+use Rattle.words.specs.Figures.{Behind, taking, behind, frontPlace}
 use Rattle.words.specs.Data.{wordAt}
 use Rattle.parts.specs.declared.Begun.{Begun}
 use Rattle.parts.specs.declared.Rules.{Rules}
@@ -26,25 +26,29 @@ use Rattle.steps.specs.declared.Cursor.{Cursor}
 use Rattle.steps.specs.declared.Event.{Event}
 use Rattle.steps.specs.declared.Event.the-variants.{Finished, Opened, Out, Read, Closed}
 use Rattle.parts.specs.Ends.{closeAt}
-use Rattle.parts.specs.Starts.{startAt}
+use Rattle.parts.specs.Starts.{numberAt, startAt}
 use Rattle.parts.specs.Items.{steps, stepped, begins, pastAddress, Standing, stops, out, at, standing, itemAt, Leads, dueAt}
-use Rattle.parts.specs.Items.{rulesOf}
+use Rattle.parts.specs.Items.{bareIn, bareBy, rulesOf}
 use Rattle.steps.specs.Steps.{Spot, Moved, between, ending, going, opens, openStep, reads, takes, closesBy, stepBy, stepAt, Ready}
 use Rattle.steps.specs.Front.{spotTold}
 use Rattle.parts.proofs.Leading.{due-on}
-use Rattle.reading.specs.Parse.{consWord, resumed, wordsAt, built, blockAt, Entry, entry, blocksAt}
+use Rattle.parts.proofs.BareFronts.{bare-same}
+use Rattle.reading.specs.Record.{blockOf, isEmpty}
+use Rattle.reading.specs.Relation.{End, chars}
+use Rattle.reading.specs.Parse.{consWord, resumed, wordsAt, blockAt, Entry, entry, blocksAt}
 use Rattle.reading.specs.Front.{Rising}
 use Rattle.reading.proofs.BlockWalk.{before, before-none, before-more}
 use Rattle.reading.proofs.DueItems.{from-due}
 use Rattle.reading.proofs.ItemSteps.{words-turn, words-over}
 use Rattle.reading.proofs.Places.{rising-rest, last-rising}
+use Rattle.reading.proofs.BlockTakes.{end-some}
 use Rattle.reading.proofs.Sound.{start-rows, step-rows, address-rows, word-rows, end-rows}
 
 -- ---- what is still to come
 
 -- the block that has begun so, with these words, from a row to its LF
 abbrev pub entryOf : ℕ → Begun → List Word → ℕ → Entry
-entryOf from b ws lf = record { block = built b ws; from = from; to = lf + 1 }
+entryOf from b ws lf = record { block = blockOf b ws; from = from; to = lf + 1 }
 
 module _ (n : ℕ) (f : Format) where
   abbrev wordsFrom : ℕ → List KeptRow → Answer (Behind (List Word))
@@ -52,7 +56,7 @@ module _ (n : ℕ) (f : Format) where
 
   -- its end, and then at most so many blocks
   abbrev finish : ℕ → ℕ → Begun → List Word → List KeptRow → Answer (List Entry)
-  finish fuel from b ws rs = closeAt n rs >>= λ e. blocksAt fuel n f (e .value + 1) (e .rest) >>= λ es. taken (entryOf from b ws (e .value) ∷ es)
+  finish fuel from b ws rs = closeAt n (isEmpty b ws) rs >>= λ e. blocksAt fuel n f (e .value + 1) (e .rest) >>= λ es. taken (entryOf from b ws (e .value) ∷ es)
 
   -- the words from item k on, behind those so far, and then its end
   abbrev further : ℕ → ℕ → Begun → List Word → Behind (List Word) → Answer (List Entry)
@@ -66,26 +70,26 @@ module _ (n : ℕ) (f : Format) where
   -- ---- a block is its start and what comes behind
 
   end-on : (fuel from : ℕ) (b : Begun) (ws : List Word) (a : Answer (Behind ℕ))
-      → ((a >>= λ e. taking (record { block = built b ws; lf = e .value }) (e .rest))
+      → ((a >>= λ e. taking (record { block = blockOf b ws; lf = e .value }) (e .rest))
       >>= λ c. blocksAt fuel n f (c .value .lf + 1) (c .rest) >>= λ es. taken (entry from (c .value) ∷ es))
       ≡ (a >>= λ e. blocksAt fuel n f (e .value + 1) (e .rest) >>= λ es. taken (entryOf from b ws (e .value) ∷ es))
   end-on fuel from b ws (taken e) = refl
   end-on fuel from b ws (refused m p) = refl
 
   words-on : (fuel from : ℕ) (b : Begun) (a : Answer (Behind (List Word)))
-      → ((a >>= λ ws. closeAt n (ws .rest) >>= λ e. taking (record { block = built b (ws .value); lf = e .value }) (e .rest))
+      → ((a >>= λ ws. closeAt n (isEmpty b (ws .value)) (ws .rest) >>= λ e. taking (record { block = blockOf b (ws .value); lf = e .value }) (e .rest))
       >>= λ c. blocksAt fuel n f (c .value .lf + 1) (c .rest) >>= λ es. taken (entry from (c .value) ∷ es))
       ≡ (a >>= further fuel from b [])
-  words-on fuel from b (taken x) = end-on fuel from b (x .value) (closeAt n (x .rest))
+  words-on fuel from b (taken x) = end-on fuel from b (x .value) (closeAt n (isEmpty b (x .value)) (x .rest))
   words-on fuel from b (refused m p) = refl
 
   -- one block is opened
-  blocks-open : (fuel from : ℕ) (r : KeptRow) (u : List KeptRow) (x : Behind Begun) → startAt n (f .sequence) (r ∷ u) ≡ taken x
+  blocks-open : (fuel from : ℕ) (r : KeptRow) (u : List KeptRow) (x : Behind Begun) → startAt n (f .sequence) (bareIn f) (r ∷ u) ≡ taken x
       → blocksAt (suc fuel) n f from (r ∷ u) ≡ toCome fuel from (x .value) [] Before 0 (x .rest)
   unfolding blocksAt blockAt
   blocks-open fuel from r u x e = rw e (words-on fuel from (x .value) (wordsFrom 0 (x .rest)))
 
-  blocks-refused : (fuel from : ℕ) (r : KeptRow) (u : List KeptRow) (m p : ℕ) → startAt n (f .sequence) (r ∷ u) ≡ refused m p → blocksAt (suc fuel) n f from (r ∷ u) ≡ refused m p
+  blocks-refused : (fuel from : ℕ) (r : KeptRow) (u : List KeptRow) (m p : ℕ) → startAt n (f .sequence) (bareIn f) (r ∷ u) ≡ refused m p → blocksAt (suc fuel) n f from (r ∷ u) ≡ refused m p
   unfolding blocksAt blockAt
   blocks-refused fuel from r u m p e = rw e
 
@@ -98,6 +102,23 @@ module _ (n : ℕ) (f : Format) where
       → (consWord w a >>= further fuel from b ws) ≡ (a >>= further fuel from b (ws ++ (w ∷ [])))
   word-on fuel from b ws w (taken x) = rw (append-assoc ws (w ∷ []) (x .value))
   word-on fuel from b ws w (refused m p) = refl
+
+end-length : (s : List KeptRow) → End (chars s) → 0 < length s
+end-length s e = rw (← (length-map s (λ r. r .char))) (end-some e)
+
+-- a start by what a step knows is the Format's
+module _ (n : ℕ) (f : Format) (h : Facts f) (leads : List ℕ) (g : Leads f leads) where
+  number-same : (skip : Bool) (rs : List KeptRow) → numberAt n (f .sequence) (bareBy (rulesOf f) leads) skip rs ≡ numberAt n (f .sequence) (bareIn f) skip rs
+  number-same skip rs = rw (bare-same f h leads g rs)
+
+  start-same : (rs : List KeptRow) → startAt n (f .sequence) (bareBy (rulesOf f) leads) rs ≡ startAt n (f .sequence) (bareIn f) rs
+  unfolding startAt
+  start-same rs = rw (number-same true (behind rs), number-same false rs)
+
+-- a block with a word is not empty
+word-said : (b : Begun) (ws : List Word) (w : Word) → false ≡ isEmpty b (ws ++ (w ∷ []))
+word-said b [] w = refl
+word-said b (v ∷ ws) w = refl
 
 -- ---- a walk
 
@@ -148,12 +169,17 @@ module _ (n : ℕ) (f : Format) (most first : ℕ) (start : List KeptRow) where
     pub rising : Rising n from (s .rows)
     pub within : s .item < 22
     pub fits : Fits (s .stage) (s .item) ws
+    pub emptied : openIn (s .stage) ≡ 1 → s .empty ≡ isEmpty b ws
     pub room : length done + openIn (s .stage) + fuel ≡ most
-    pub enough : length start ≤ most → length (s .rows) ≤ fuel
+    pub enough : length start ≤ most → length (s .rows) ≤ fuel + openIn (s .stage)
     pub below : length done ≤ from
 
   pub walk-starts : (b : Begun) → Rising n first start → Walk [] b [] most first (between start)
-  walk-starts b h = record { come = before-none all; rising = h; within = omega arith; fits = tt; room = omega arith; enough = λ l. l; below = zero-le }
+  walk-starts b h = record { come = before-none all; rising = h; within = omega arith; fits = tt; emptied = λ o. absurd (omega (arith, o)); room = omega arith; enough = λ l. omega (arith, l); below = zero-le }
+
+  -- with enough of them, one more may come where a row is left between blocks
+  pub more-come : {done : List Entry} {b : Begun} {ws : List Word} {fuel from : ℕ} {s : Spot} → Walk done b ws fuel from s → length start ≤ most → s .stage ≡ Between → 0 < length (s .rows) → 0 < fuel
+  more-come g l z o = omega (arith, o, g .enough l, ap openIn z)
 
   -- as many blocks are done as there may be
   pub walk-full : {done : List Entry} {b : Begun} {ws : List Word} {fuel from : ℕ} {s : Spot} → Walk done b ws fuel from s → length done ≡ most
@@ -216,10 +242,10 @@ module _ (n : ℕ) (f : Format) (most first : ℕ) (start : List KeptRow) where
 
   -- before item k of an open block, the walk goes on where the next word may stand
   module _ (h : Facts f) (leads : List ℕ) (ld : Leads f leads) where
-    lands : (done : List Entry) (fuel from : ℕ) (b : Begun) (ws : List Word) (k : ℕ) (rs : List KeptRow) → all ≡ before done (toCome n f fuel from b ws Before k rs)
-        → Rising n from rs → k ≤ 22 → length ws ≤ k → length ws ≤ f .count → length done + 1 + fuel ≡ most → (length start ≤ most → length rs ≤ fuel) → length done ≤ from
-        → (u : Spot) → u ≡ going (rulesOf f) leads k rs → Walk done b ws fuel from u × (rank (u .stage) (u .item) ≤ 23 - k)
-    lands done fuel from b ws k rs come rising l short fewer room enough below u e = rw e (by (ltb due (f .count)) refl)
+    lands : (done : List Entry) (fuel from : ℕ) (b : Begun) (ws : List Word) (empty : Bool) (k : ℕ) (rs : List KeptRow) → empty ≡ isEmpty b ws → all ≡ before done (toCome n f fuel from b ws Before k rs)
+        → Rising n from rs → k ≤ 22 → length ws ≤ k → length ws ≤ f .count → length done + 1 + fuel ≡ most → (length start ≤ most → length rs ≤ fuel + 1) → length done ≤ from
+        → (u : Spot) → u ≡ going (rulesOf f) leads empty k rs → Walk done b ws fuel from u × (rank (u .stage) (u .item) ≤ 23 - k)
+    lands done fuel from b ws empty k rs bare come rising l short fewer room enough below u e = rw e (by (ltb due (f .count)) refl)
       where
         due : ℕ
         due = dueAt leads (f .dots) k rs
@@ -233,7 +259,7 @@ module _ (n : ℕ) (f : Format) (most first : ℕ) (start : List KeptRow) where
         Landed : Spot → Type 0
         Landed v = Walk done b ws fuel from v × (rank (v .stage) (v .item) ≤ 23 - k)
 
-        by : (x : Bool) → ltb due (f .count) ≡ x → Landed (cond x (record { stage = Before; item = due; rows = rs }) (ending rs))
+        by : (x : Bool) → ltb due (f .count) ≡ x → Landed (cond x (record { stage = Before; item = due; empty = empty; rows = rs }) (ending empty rs))
         by true q =
             let m = ltb-true due (f .count) q in (
               record {
@@ -241,6 +267,7 @@ module _ (n : ℕ) (f : Format) (most first : ℕ) (start : List KeptRow) where
                 rising = rising;
                 within = omega (arith, m, h .few);
                 fits = (omega (arith, short, later), m);
+                emptied = λ o. bare;
                 room = room;
                 enough = enough;
                 below = below;
@@ -254,6 +281,7 @@ module _ (n : ℕ) (f : Format) (most first : ℕ) (start : List KeptRow) where
                 rising = rising;
                 within = omega arith;
                 fits = fewer;
+                emptied = λ o. bare;
                 room = room;
                 enough = enough;
                 below = below;
@@ -263,52 +291,52 @@ module _ (n : ℕ) (f : Format) (most first : ℕ) (start : List KeptRow) where
 
     -- ---- the law of each stage
 
-    module _ (done : List Entry) (b : Begun) (ws : List Word) (fuel from k : ℕ) (rs : List KeptRow) where
+    module _ (done : List Entry) (b : Begun) (ws : List Word) (fuel from k : ℕ) (empty : Bool) (rs : List KeptRow) where
       abbrev From : Stage → Type 0
-      From g = Walk done b ws fuel from (record { stage = g; item = k; rows = rs })
+      From g = Walk done b ws fuel from (record { stage = g; item = k; empty = empty; rows = rs })
 
       abbrev To : Stage → Moved → Type 0
-      To g m = Goes done b ws fuel from (record { stage = g; item = k; rows = rs }) (m .spot) (m .event)
+      To g m = Goes done b ws fuel from (record { stage = g; item = k; empty = empty; rows = rs }) (m .spot) (m .event)
 
-      abbrev onward : ℕ → List KeptRow → Spot
-      onward j u = going (rulesOf f) leads j u
+      abbrev onward : Bool → ℕ → List KeptRow → Spot
+      onward x j u = going (rulesOf f) leads x j u
 
       -- between two blocks; more may come where a row is left
-      step-open : From Between → (0 < length rs → 0 < fuel) → To Between (openStep n (rulesOf f) onward (record { stage = Between; item = k; rows = rs }) rs)
+      step-open : From Between → (0 < length rs → 0 < fuel) → To Between (openStep n (rulesOf f) leads (record { stage = Between; item = k; empty = empty; rows = rs }) rs)
       step-open g spare = by rs refl
         where
           here : Spot
-          here = record { stage = Between; item = k; rows = rs }
+          here = record { stage = Between; item = k; empty = empty; rows = rs }
 
-          opened : (r : KeptRow) (u : List KeptRow) → rs ≡ r ∷ u → (φ : ℕ) → fuel ≡ suc φ → (a : Answer (Behind Begun)) → startAt n (f .sequence) rs ≡ a → To Between (opens onward here a)
+          opened : (r : KeptRow) (u : List KeptRow) → rs ≡ r ∷ u → (φ : ℕ) → fuel ≡ suc φ → (a : Answer (Behind Begun)) → startAt n (f .sequence) (bareIn f) rs ≡ a → To Between (opens onward here a)
           opened r u e φ o (taken x) q =
-              let t = start-rows n rs (f .sequence) x q in
+              let t = start-rows n rs f x q in
               let size : length rs ≡ length (t .took) + length (x .rest) = ap length (t .split) ∙ length-append (t .took) (x .rest) in
-              let some = t .stands in
-              let w = lands done φ from (x .value) [] 0 (x .rest)
+              let w = lands done φ from (x .value) [] (not (x .value .numbered)) 0 (x .rest) refl
               (g .come ∙ rw (e, o) (ap (before done) (blocks-open n f φ from r u x (rw e at q))))
               (rising-rest (t .took) (x .rest) (rw (t .split) at (g .rising))) zero-le zero-le zero-le (omega (arith, g .room, o))
-              (λ l. omega (arith, g .enough l, size, some, o)) (g .below) _ refl in
+              (λ l. omega (arith, g .enough l, size, o)) (g .below) _ refl in
               (φ, o, record { walk = w .0; nearer = omega (arith, w .1) })
           opened r u e φ o (refused m p) q = g .come ∙ rw (e, o) (ap (before done) (blocks-refused n f φ from r u m p (rw e at q)))
 
-          fuelled : (r : KeptRow) (u : List KeptRow) → rs ≡ r ∷ u → (φ : ℕ) → fuel ≡ φ → 0 < φ → To Between (openStep n (rulesOf f) onward here (r ∷ u))
+          fuelled : (r : KeptRow) (u : List KeptRow) → rs ≡ r ∷ u → (φ : ℕ) → fuel ≡ φ → 0 < φ → To Between (openStep n (rulesOf f) leads here (r ∷ u))
           fuelled r u e zero o l = absurd (omega (arith, l))
-          fuelled r u e (suc φ) o l = opened r u e φ o (startAt n (f .sequence) (r ∷ u)) (ap (startAt n (f .sequence)) e)
+          fuelled r u e (suc φ) o l =
+              opened r u e φ o (startAt n (f .sequence) (bareBy (rulesOf f) leads) (r ∷ u)) (ap (startAt n (f .sequence) (bareIn f)) e ∙ sym (start-same n f h leads ld (r ∷ u)))
 
-          by : (u : List KeptRow) → rs ≡ u → To Between (openStep n (rulesOf f) onward here u)
+          by : (u : List KeptRow) → rs ≡ u → To Between (openStep n (rulesOf f) leads here u)
           by [] e = (g .come ∙ rw (e, blocks-none n f fuel from) (ap taken (append-nil done)), refl)
           by (r ∷ u) e = fuelled r u e fuel refl (spare (rw e (omega arith)))
 
       -- before an item, by how it stands
-      step-take : From Before → To Before (takes n (itemAt f k) onward (record { stage = Before; item = k; rows = rs }) (standing (wayOf f) (itemAt f k .letter) rs))
+      step-take : From Before → To Before (takes n (itemAt f k) onward (record { stage = Before; item = k; empty = empty; rows = rs }) (standing (wayOf f) (itemAt f k .letter) rs))
       step-take g = by (steps (wayOf f) rs) refl (begins (wayOf f) (it .letter) (stepped (wayOf f) rs)) refl
         where
           it : Item
           it = itemAt f k
 
           here : Spot
-          here = record { stage = Before; item = k; rows = rs }
+          here = record { stage = Before; item = k; empty = empty; rows = rs }
 
           turn : (s : Standing) → s ≡ standing (wayOf f) (it .letter) rs → all ≡ before done (resumed n it rs (wordsAt n (wayOf f) (drop (k + 1) (itemsOf f))) s >>= further n f fuel from b ws)
           turn s e = g .come ∙ ap (λ a. before done (a >>= further n f fuel from b ws)) (words-turn n f h rs k (g .fits .1) s e)
@@ -317,7 +345,7 @@ module _ (n : ℕ) (f : Format) (most first : ℕ) (start : List KeptRow) where
           rises : (took rest : List KeptRow) → rs ≡ took ++ rest → Rising n from rest
           rises took rest split = rising-rest took rest (rw split at (g .rising))
 
-          shorter : (took rest : List KeptRow) → rs ≡ took ++ rest → length start ≤ most → length rest ≤ fuel
+          shorter : (took rest : List KeptRow) → rs ≡ took ++ rest → length start ≤ most → length rest ≤ fuel + 1
           shorter took rest split l = let size : length rs ≡ length took + length rest = ap length split ∙ length-append took rest in omega (arith, g .enough l, size)
 
           word : (first : ℕ) (u : List KeptRow) (took : List KeptRow) → rs ≡ took ++ u → at first u ≡ standing (wayOf f) (it .letter) rs
@@ -326,7 +354,7 @@ module _ (n : ℕ) (f : Format) (most first : ℕ) (start : List KeptRow) where
               let t = word-rows n u it first x q in
               let all-rows : rs ≡ (took ++ t .took) ++ x .rest = split ∙ ap (λ v. took ++ v) (t .split) ∙ sym (append-assoc took (t .took) (x .rest)) in
               let longer : length (ws ++ (x .value ∷ [])) ≡ length ws + 1 = length-append ws (x .value ∷ []) in
-              let w = lands done fuel from b (ws ++ (x .value ∷ [])) (k + 1) (x .rest)
+              let w = lands done fuel from b (ws ++ (x .value ∷ [])) false (k + 1) (x .rest) (word-said b ws (x .value))
               (turn (at first u) e ∙ rw q (ap (before done) (word-on n f fuel from b ws (x .value) (wordsFrom n f (k + 1) (x .rest)))))
               (rises (took ++ t .took) (x .rest) all-rows) (omega (arith, g .within)) (omega (arith, longer, g .fits .0)) (omega (arith, longer, g .fits))
               (g .room) (shorter (took ++ t .took) (x .rest) all-rows) (g .below) _ refl in
@@ -345,6 +373,7 @@ module _ (n : ℕ) (f : Format) (most first : ℕ) (start : List KeptRow) where
                   rising = g .rising;
                   within = omega arith;
                   fits = omega (arith, g .fits);
+                  emptied = g .emptied;
                   room = g .room;
                   enough = g .enough;
                   below = g .below;
@@ -353,7 +382,7 @@ module _ (n : ℕ) (f : Format) (most first : ℕ) (start : List KeptRow) where
               }
           by true p false q =
               let t = step-rows n rs (wayOf f) p in
-              let w = lands done fuel from b ws (k + 1) (stepped (wayOf f) rs) (turn (out (stepped (wayOf f) rs)) (rw (p, q)))
+              let w = lands done fuel from b ws empty (k + 1) (stepped (wayOf f) rs) (g .emptied refl) (turn (out (stepped (wayOf f) rs)) (rw (p, q)))
               (rises (t .took) (stepped (wayOf f) rs) (t .split)) (omega (arith, g .within)) (omega (arith, g .fits .0)) (omega (arith, g .fits))
               (g .room) (shorter (t .took) (stepped (wayOf f) rs) (t .split)) (g .below) _ refl in
               record { walk = w .0; nearer = omega (arith, w .1, g .within) }
@@ -364,23 +393,27 @@ module _ (n : ℕ) (f : Format) (most first : ℕ) (start : List KeptRow) where
               word (frontPlace after) (pastAddress (wayOf f) after) (t .took ++ b .took) split (rw (p, q)) (wordAt n it (frontPlace after) (pastAddress (wayOf f) after)) refl
 
       -- behind the items
-      step-close : From Ending → To Ending (closesBy (record { stage = Ending; item = k; rows = rs }) (closeAt n rs))
-      step-close g = by (closeAt n rs) refl
+      step-close : From Ending → To Ending (closesBy (record { stage = Ending; item = k; empty = empty; rows = rs }) (closeAt n empty rs))
+      step-close g = by (closeAt n empty rs) refl
         where
-          by : (a : Answer (Behind ℕ)) → closeAt n rs ≡ a → To Ending (closesBy (record { stage = Ending; item = k; rows = rs }) a)
+          same : closeAt n empty rs ≡ closeAt n (isEmpty b ws) rs
+          same = ap (λ x. closeAt n x rs) (g .emptied refl)
+
+          by : (a : Answer (Behind ℕ)) → closeAt n empty rs ≡ a → To Ending (closesBy (record { stage = Ending; item = k; empty = empty; rows = rs }) a)
           by (taken x) q =
-              let t = end-rows n rs x q in
+              let t = end-rows n rs empty x q in
               let l = last-rising (x .rest) (t .stands .1) (rw (t .split) at (g .rising)) in
               let longer : length (done ++ (entryOf from b ws (x .value) ∷ [])) ≡ length done + 1 = length-append done (entryOf from b ws (x .value) ∷ []) in
               let size : length rs ≡ length (t .took) + length (x .rest) = ap length (t .split) ∙ length-append (t .took) (x .rest) in (
                 record {
                   walk = record {
-                    come = g .come ∙ rw q (before-more done (entryOf from b ws (x .value)) (blocksAt fuel n f (x .value + 1) (x .rest)));
+                    come = g .come ∙ rw (sym same ∙ q) (before-more done (entryOf from b ws (x .value)) (blocksAt fuel n f (x .value + 1) (x .rest)));
                     rising = rw (add-one (x .value)) (l .2);
                     within = omega arith;
                     fits = tt;
+                    emptied = λ o. absurd (omega (arith, o));
                     room = omega (arith, g .room, longer);
-                    enough = λ o. omega (arith, g .enough o, size);
+                    enough = λ o. omega (arith, g .enough o, size, end-length (t .took) (t .stands .0));
                     below = omega (arith, longer, g .below, l .0);
                   };
                   nearer = omega (arith, l .0, l .1);
@@ -388,9 +421,9 @@ module _ (n : ℕ) (f : Format) (most first : ℕ) (start : List KeptRow) where
                 l .0,
                 l .1,
               )
-          by (refused m p) q = g .come ∙ rw q
+          by (refused m p) q = g .come ∙ rw (sym same ∙ q)
 
-      step-goes : (g : Stage) → From g → (g ≡ Between → 0 < length rs → 0 < fuel) → To g (stepBy n (rulesOf f) (itemAt f k) onward (record { stage = g; item = k; rows = rs }) g)
+      step-goes : (g : Stage) → From g → (g ≡ Between → 0 < length rs → 0 < fuel) → To g (stepBy n (rulesOf f) leads (itemAt f k) (record { stage = g; item = k; empty = empty; rows = rs }) g)
       step-goes Between g spare = step-open g (spare refl)
       step-goes Before g spare = step-take g
       step-goes Ending g spare = step-close g
@@ -401,4 +434,4 @@ module _ (n : ℕ) (f : Format) (most first : ℕ) (start : List KeptRow) where
       → Goes done b ws fuel from s (m .spot) e
   unfolding stepAt
   goes h {done} {b} {ws} {fuel} {from} {s} g spare m e v q =
-      subst (λ x. Goes done b ws fuel from s (m .spot) x) q (rw (e, h .ruled) (step-goes (h .facts) _ (h .led) done b ws fuel from (s .item) (s .rows) (s .stage) g spare))
+      subst (λ x. Goes done b ws fuel from s (m .spot) x) q (rw (e, h .ruled) (step-goes (h .facts) _ (h .led) done b ws fuel from (s .item) (s .empty) (s .rows) (s .stage) g spare))

@@ -43,9 +43,18 @@ pub fair-fails : (p : ℕ → Bool) → anyOf p letters ≡ false → {its : Lis
 fair-fails p h none = refl
 fair-fails p h (more {it} l w d f) = rw (fails p letters (it .letter) l h) (fair-fails p h f)
 
-end-front : (p : ℕ → Bool) → p 10 ≡ false → p 13 ≡ false → (s : List ℕ) {e : List ℕ} → End e → heads p (e ++ s) ≡ false
-end-front p l c s lf = l
-end-front p l c s cr-lf = c
+-- an end begins with LF or CR
+pub data AtEnd : List ℕ → Type 0 where
+  at-lf : {s : List ℕ} → AtEnd (10 ∷ s)
+  at-cr : {s : List ℕ} → AtEnd (13 ∷ s)
+
+pub end-ahead : {e : List ℕ} → End e → (s : List ℕ) → AtEnd (e ++ s)
+end-ahead lf s = at-lf
+end-ahead cr-lf s = at-cr
+
+end-front : (p : ℕ → Bool) → p 10 ≡ false → p 13 ≡ false → {z : List ℕ} → AtEnd z → heads p z ≡ false
+end-front p l c at-lf = l
+end-front p l c at-cr = c
 
 -- what fails on HT and an item's letter fails on the first row of a tab and an address
 module _ (p : ℕ → Bool) (ht : p 9 ≡ false) where
@@ -59,20 +68,18 @@ module _ (p : ℕ → Bool) (ht : p 9 ≡ false) where
   word-front by-both it x h = ht
   word-front by-tab it x h = ht
 
--- what fails on HT, LF, CR and the items' letters fails on what stands at the front of words and an end
-module _ (p : ℕ → Bool) (ht : p 9 ≡ false) (l : p 10 ≡ false) (c : p 13 ≡ false) (s : List ℕ) where
-  words-front : {y : Way} {its : List Item} {ws : List Word} {r e : List ℕ} → Words y its ws r → End e → anyOf p (map (λ i. i .letter) its) ≡ false
-      → heads p (r ++ (e ++ s)) ≡ false
-  words-front done end h = end-front p l c s end
-  words-front {y} {e = e} (out {it} {its} {r = r} w) end h =
-      rw (append-assoc (tab y) r (e ++ s)) (tab-front p ht y (r ++ (e ++ s)) (words-front w end (neither (p (it .letter)) _ h .1)))
-  words-front {y} {e = e} (here {it} {its} {r = r} (word {ds = ds} q) w) end h =
-      rw (append-assoc (tab y) (address y it ++ ds ++ r) (e ++ s), append-assoc (address y it) ds r, append-assoc (address y it) (ds ++ r) (e ++ s))
-      (word-front p ht y it (ds ++ r ++ (e ++ s)) (neither (p (it .letter)) _ h .0))
+-- what fails on HT, LF, CR and the items' letters fails on what stands at the front of words before an end
+module _ (p : ℕ → Bool) (ht : p 9 ≡ false) (l : p 10 ≡ false) (c : p 13 ≡ false) {z : List ℕ} (end : AtEnd z) where
+  words-front : {y : Way} {its : List Item} {ws : List Word} {r : List ℕ} → Words y its ws r → anyOf p (map (λ i. i .letter) its) ≡ false → heads p (r ++ z) ≡ false
+  words-front done h = end-front p l c end
+  words-front {y} (out {it} {its} {r = r} w) h = rw (append-assoc (tab y) r z) (tab-front p ht y (r ++ z) (words-front w (neither (p (it .letter)) _ h .1)))
+  words-front {y} (here {it} {its} {r = r} (word {ds = ds} q) w) h =
+      rw (append-assoc (tab y) (address y it ++ ds ++ r) z, append-assoc (address y it) ds r, append-assoc (address y it) (ds ++ r) z)
+      (word-front p ht y it (ds ++ r ++ z) (neither (p (it .letter)) _ h .0))
 
 -- no digit stands there
-pub words-apart : {its : List Item} → Fair its → {y : Way} {ws : List Word} {r e : List ℕ} → Words y its ws r → End e → (s : List ℕ) → heads isDigit (r ++ (e ++ s)) ≡ false
-words-apart fair w end s = words-front isDigit refl refl refl s w end (fair-fails isDigit refl fair)
+pub words-apart : {its : List Item} → Fair its → {y : Way} {ws : List Word} {r z : List ℕ} → Words y its ws r → AtEnd z → heads isDigit (r ++ z) ≡ false
+words-apart fair w end = words-front isDigit refl refl refl end w (fair-fails isDigit refl fair)
 
 -- ---- with what an item's word begins
 
@@ -88,17 +95,16 @@ begins-heads by-tab it rs = figure-heads rs
 
 -- the letter of an item is not at the front of the words of the items after it
 letter-behind : (it : Item) (its : List Item) → T (anyOf (λ c. eqb c (it .letter)) letters) → T (not (anyOf (λ c. eqb c (it .letter)) (map (λ i. i .letter) its)))
-    → {y : Way} {ws : List Word} {r e : List ℕ} → Words y its ws r → End e → (s : List ℕ) → heads (λ c. eqb c (it .letter)) (r ++ (e ++ s)) ≡ false
-letter-behind it its l d w end s =
+    → {y : Way} {ws : List Word} {r z : List ℕ} → Words y its ws r → AtEnd z → heads (λ c. eqb c (it .letter)) (r ++ z) ≡ false
+letter-behind it its l d w end =
     let other : (c : ℕ) → anyOf (λ k. eqb c k) letters ≡ false → eqb c (it .letter) ≡ false = λ c h. fails (λ k. eqb c k) letters (it .letter) l h in
-    words-front (λ c. eqb c (it .letter)) (other 9 refl) (other 10 refl) (other 13 refl) s w end (is-false _ d)
+    words-front (λ c. eqb c (it .letter)) (other 9 refl) (other 10 refl) (other 13 refl) end w (is-false _ d)
 
 -- so its word does not begin there
-not-ahead : (y : Way) (it : Item) (its : List Item) → Fair (it ∷ its) → {ws : List Word} {r e : List ℕ} → Words y its ws r → End e → (s : List ℕ)
-    → heads (beginning y it) (r ++ (e ++ s)) ≡ false
-not-ahead by-letter it its (more l w d f) v end s = letter-behind it its l d v end s
-not-ahead by-both it its (more l w d f) v end s = letter-behind it its l d v end s
-not-ahead by-tab it its (more l w d f) v end s = words-front isFigure refl refl refl s v end (fair-fails isFigure refl f)
+not-ahead : (y : Way) (it : Item) (its : List Item) → Fair (it ∷ its) → {ws : List Word} {r z : List ℕ} → Words y its ws r → AtEnd z → heads (beginning y it) (r ++ z) ≡ false
+not-ahead by-letter it its (more l w d f) v end = letter-behind it its l d v end
+not-ahead by-both it its (more l w d f) v end = letter-behind it its l d v end
+not-ahead by-tab it its (more l w d f) v end = words-front isFigure refl refl refl end v (fair-fails isFigure refl f)
 
 -- but at the front of its own rows, and its data stand behind the address
 pub own-front : (y : Way) (it : Item) {x : Value} {d : List ℕ} → Data (it .kind) x d → Widths (it .kind) → (u : List ℕ) → heads (beginning y it) (address y it ++ (d ++ u)) ≡ true
@@ -134,23 +140,21 @@ module _ (len : ℕ) (y : Way) (it : Item) (its : List Item) (rs : List KeptRow)
       record { rest = k .rest; takes = rw (step, begins-heads y it (stepped y rs), q, h, t .takes, k .takes); leaves = k .leaves }
 
 -- where no word is left, an end stands at the front
-none-take : (len : ℕ) (y : Way) (s : List ℕ) {e : List ℕ} → End e → {its : List Item} → Fair its → (rs : List KeptRow) → chars rs ≡ e ++ s → Takes (wordsAt len y its rs) [] (e ++ s)
+none-take : (len : ℕ) (y : Way) {z : List ℕ} → AtEnd z → {its : List Item} → Fair its → (rs : List KeptRow) → chars rs ≡ z → Takes (wordsAt len y its rs) [] z
 unfolding wordsAt
-none-take len y s end none rs q = record { rest = rs; takes = refl; leaves = q }
-none-take len by-letter s end (more {it} {its} l w d f) rs q =
-    pass-item len by-letter it its rs _ _ refl q [] (not-ahead by-letter it its (more l w d f) done end s) (none-take len by-letter s end f rs q)
-none-take len by-both s end (more l w d f) rs q =
-    record { rest = rs; takes = rw (fronts-heads 9 rs, q, end-front (λ c. eqb c 9) refl refl s end); leaves = q }
-none-take len by-tab s end (more l w d f) rs q =
-    record { rest = rs; takes = rw (fronts-heads 9 rs, q, end-front (λ c. eqb c 9) refl refl s end); leaves = q }
+none-take len y end none rs q = record { rest = rs; takes = refl; leaves = q }
+none-take len by-letter end (more {it} {its} l w d f) rs q =
+    pass-item len by-letter it its rs _ _ refl q [] (not-ahead by-letter it its (more l w d f) done end) (none-take len by-letter end f rs q)
+none-take len by-both end (more l w d f) rs q = record { rest = rs; takes = rw (fronts-heads 9 rs, q, end-front (λ c. eqb c 9) refl refl end); leaves = q }
+none-take len by-tab end (more l w d f) rs q = record { rest = rs; takes = rw (fronts-heads 9 rs, q, end-front (λ c. eqb c 9) refl refl end); leaves = q }
 
-pub words-take : (len : ℕ) (y : Way) (s : List ℕ) {e : List ℕ} → End e → {its : List Item} {ws : List Word} {r : List ℕ} → Words y its ws r → Fair its
-    → (rs : List KeptRow) → chars rs ≡ r ++ (e ++ s) → Takes (wordsAt len y its rs) ws (e ++ s)
-words-take len y s end done fair rs q = none-take len y s end fair rs q
-words-take len y s {e} end (out {it} {its} {ws} {r} v) (more l w d f) rs q =
-    let st = step-takes y rs (r ++ (e ++ s)) (q ∙ append-assoc (tab y) r (e ++ s)) in
-    pass-item len y it its rs _ _ (st .0) (st .1) ws (not-ahead y it its (more l w d f) v end s) (words-take len y s end v f (stepped y rs) (st .1))
-words-take len y s {e} end (here {it} {its} {w} {ws} {r = r} (word {x} {ds} p) v) (more l k u f) rs q =
-    let st = step-takes y rs (address y it ++ (ds ++ (r ++ (e ++ s)))) (q ∙ simp append-assoc) in
-    let t = word-takes it p k len (frontPlace (stepped y rs)) (pastAddress y (stepped y rs)) (r ++ (e ++ s)) (past-chars y it _ (stepped y rs) (st .1)) (words-apart f v end s) in
-    take-item len y it its rs _ _ (st .0) (st .1) w ws _ (own-front y it p k _) t (λ rs′ h. words-take len y s end v f rs′ h)
+pub words-take : (len : ℕ) (y : Way) {z : List ℕ} → AtEnd z → {its : List Item} {ws : List Word} {r : List ℕ} → Words y its ws r → Fair its → (rs : List KeptRow) → chars rs ≡ r ++ z
+    → Takes (wordsAt len y its rs) ws z
+words-take len y end done fair rs q = none-take len y end fair rs q
+words-take len y {z} end (out {it} {its} {ws} {r} v) (more l w d f) rs q =
+    let st = step-takes y rs (r ++ z) (q ∙ append-assoc (tab y) r z) in
+    pass-item len y it its rs _ _ (st .0) (st .1) ws (not-ahead y it its (more l w d f) v end) (words-take len y end v f (stepped y rs) (st .1))
+words-take len y {z} end (here {it} {its} {w} {ws} {r = r} (word {x} {ds} p) v) (more l k u f) rs q =
+    let st = step-takes y rs (address y it ++ (ds ++ (r ++ z))) (q ∙ simp append-assoc) in
+    let t = word-takes it p k len (frontPlace (stepped y rs)) (pastAddress y (stepped y rs)) (r ++ z) (past-chars y it _ (stepped y rs) (st .1)) (words-apart f v end) in
+    take-item len y it its rs _ _ (st .0) (st .1) w ws _ (own-front y it p k _) t (λ rs′ h. words-take len y end v f rs′ h)

@@ -12,9 +12,9 @@ use Rattle.words.specs.Data.{wordAt}
 use Rattle.parts.specs.declared.Begun.{Begun}
 use Rattle.parts.specs.Ends.{closeAt}
 use Rattle.parts.specs.Starts.{startAt}
-use Rattle.parts.specs.Items.{Standing, stops, out, at, standing}
+use Rattle.parts.specs.Items.{Standing, stops, out, at, standing, bareIn}
 use Rattle.reading.specs.declared.Block.{Block}
-use Rattle.reading.specs.Record.{blockOf}
+use Rattle.reading.specs.Record.{blockOf, isEmpty}
 
 -- ---- the words of a block
 
@@ -39,17 +39,13 @@ pub record BlockRead : Type 0 where
   pub block : Block
   pub lf : ℕ
 
--- the block that has begun so, with these words
-abbrev pub built : Begun → List Word → Block
-built b ws = blockOf (b .skip) (b .alignment) (b .sequence) ws
-
--- behind its start: the words, and an end, or 10 at any other row
+-- behind its start: the words, and an end, or 10 at any other row; 9 at the LF of an empty block
 abbrev pub wordsAndEnd : ℕ → Format → Behind Begun → Answer (Behind BlockRead)
 wordsAndEnd len f s =
-    wordsAt len (wayOf f) (itemsOf f) (s .rest) >>= λ ws. closeAt len (ws .rest) >>= λ e. taking (record { block = built (s .value) (ws .value); lf = e .value }) (e .rest)
+    wordsAt len (wayOf f) (itemsOf f) (s .rest) >>= λ ws. closeAt len (isEmpty (s .value) (ws .value)) (ws .rest) >>= λ e. taking (record { block = blockOf (s .value) (ws .value); lf = e .value }) (e .rest)
 
 unfoldable pub blockAt : ℕ → Format → List KeptRow → Answer (Behind BlockRead)
-blockAt len f rs = startAt len (f .sequence) rs >>= wordsAndEnd len f
+blockAt len f rs = startAt len (f .sequence) (bareIn f) rs >>= wordsAndEnd len f
 
 -- ---- all blocks
 

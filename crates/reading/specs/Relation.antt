@@ -1,4 +1,5 @@
--- Which rows a program may stand as under a Format, from the program to the rows (documents 01, "Four stages" and "The record", and 02, 2/12).
+-- Which rows a program may stand as under a Format, from the program to the rows (documents 01, "Four stages" and "The record", and 02, 2/12
+-- and 5/12).
 -- Nothing here answers a value for rows.
 use Prim.Native.Nat.{ℕ, zero, suc, _+_, _/_, _%_, _^_, _<_}
 use mathlib.Core.Path.{_≡_}
@@ -23,8 +24,10 @@ use Rattle.profile.specs.Relation.{Settled}
 use Rattle.words.specs.declared.Value.{Value}
 use Rattle.words.specs.declared.Value.the-variants.{Number}
 use Rattle.words.specs.declared.Word.{Word}
+use Rattle.parts.specs.declared.Begun.{Begun}
+use Rattle.parts.specs.Starts.{unnumbered}
 use Rattle.reading.specs.declared.Block.{Block}
-use Rattle.reading.specs.Record.{blockOf}
+use Rattle.reading.specs.Record.{blockOf, isEmpty}
 
 -- the n digits of v, the highest first
 abbrev pub digits : ℕ → ℕ → List ℕ
@@ -88,13 +91,22 @@ abbrev pub skipRows : Bool → List ℕ
 skipRows true = 47 ∷ []
 skipRows false = []
 
--- ":" for alignment or N, with exactly the digits of the N item
-abbrev pub sequenceRows : ℕ → Bool → ℕ → List ℕ
-sequenceRows d alignment n = cond alignment 58 78 ∷ digits d n
+-- ":" for alignment or N, with exactly the digits of the N item; nothing where there is no number
+abbrev pub sequenceRows : ℕ → Begun → List ℕ
+sequenceRows d s = cond (s .numbered) (cond (s .alignment) 58 78 ∷ digits d (s .sequence)) []
+
+-- a block's start
+abbrev pub startRows : ℕ → Begun → List ℕ
+startRows d s = skipRows (s .skip) ++ sequenceRows d s
+
+-- how a block may begin: with a number of the N item's digits; or with none where the Format allows it, and then without alignment
+pub data Start (f : Format) : Begun → Type 0 where
+  counted : {n : ℕ} (skip alignment : Bool) → n < 10 ^ f .sequence → Start f (record { skip = skip; alignment = alignment; numbered = true; sequence = n })
+  bare : (skip : Bool) → f .unnumbered ≡ true → Start f (unnumbered skip)
 
 pub data Blocked (f : Format) : Block → List ℕ → Type 0 where
-  block : {n : ℕ} {ws : List Word} {r e : List ℕ} (skip alignment : Bool) → n < 10 ^ f .sequence → Words (wayOf f) (itemsOf f) ws r → End e
-      → Blocked f (blockOf skip alignment n ws) (skipRows skip ++ (sequenceRows (f .sequence) alignment n ++ (r ++ e)))
+  block : {s : Begun} {ws : List Word} {r e : List ℕ} → Start f s → isEmpty s ws ≡ false → Words (wayOf f) (itemsOf f) ws r → End e
+      → Blocked f (blockOf s ws) (startRows (f .sequence) s ++ (r ++ e))
 
 pub data Blocks (f : Format) : List Block → List ℕ → Type 0 where
   none : Blocks f [] []

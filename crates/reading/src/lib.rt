@@ -18,10 +18,11 @@ use shorthand::Format;
 use walk::survey_tape;
 use words::Word;
 
-// A block: optional skip, alignment, its sequence number and its words. Places past the count hold letter 0 and plain number 0.
+// A block: optional skip, alignment, whether it has a number, its number, 0 where it has none, and its words. Places past the count hold letter 0 and plain number 0.
 pub struct Block {
     pub skip: bool,
     pub alignment: bool,
+    pub numbered: bool,
     pub sequence: u64,
     pub count: usize,
     pub words: [Word; 22],

@@ -5,8 +5,8 @@ ghost use Prim.Native.Nat.{_+_, _<_};
 ghost use lib.ListN.{length, set};
 ghost use Rattle.rows.specs.Kept.{keptAt};
 ghost use Rattle.shorthand.specs.Facts.{Facts};
-ghost use Rattle.reading.specs.Record.{emptyBlock};
-ghost use Rattle.reading.specs.Parse.{built, blocksAt};
+ghost use Rattle.reading.specs.Record.{blockOf, emptyBlock};
+ghost use Rattle.reading.specs.Parse.{blocksAt};
 ghost use Rattle.reading.specs.Front.{blockIn};
 use crate::Block;
 use parts::Begun;
@@ -22,7 +22,7 @@ use words::Word;
 
 // A block with no words yet.
 fn new_block(begun: Begun) -> Block
-    ensures { λ r. ⌜ r ≡ built begun [] ⌝ }
+    ensures { λ r. ⌜ r ≡ blockOf begun [] ⌝ }
 {
     let blank = Word {
         letter: 0,
@@ -31,6 +31,7 @@ fn new_block(begun: Begun) -> Block
     Block {
         skip: begun.skip,
         alignment: begun.alignment,
+        numbered: begun.numbered,
         sequence: begun.sequence,
         count: 0,
         words: [blank; 22],
@@ -40,7 +41,7 @@ fn new_block(begun: Begun) -> Block
 // A block with one more word.
 fn with_word(block: Block, word: Word) -> Block
     requires { ⌜ block .count < 22 ⌝ }
-    ensures { λ r. ⌜ r ≡ record { skip = block .skip; alignment = block .alignment; sequence = block .sequence; count = block .count + 1; words = set (block .words) (block .count) word } ⌝ }
+    ensures { λ r. ⌜ r ≡ record { skip = block .skip; alignment = block .alignment; numbered = block .numbered; sequence = block .sequence; count = block .count + 1; words = set (block .words) (block .count) word } ⌝ }
 {
     let mut next = block;
     let at = block.count;
@@ -56,6 +57,7 @@ pub fn empty_block() -> Block
     new_block(Begun {
         skip: false,
         alignment: false,
+        numbered: false,
         sequence: 0,
     })
 }
@@ -70,6 +72,7 @@ pub(crate) fn gather_block(tape: &[u8], format: Format, from: usize) -> Block
     let mut cursor = Cursor {
         stage: Stage::Between,
         item: 0,
+        empty: false,
         front: rows::next_kept(tape, from),
     };
     let mut block = empty_block();

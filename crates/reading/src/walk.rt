@@ -40,6 +40,7 @@ fn survey_blocks(tape: &[u8], format: Format, n: usize, first: usize, front: Nex
     let mut cursor = Cursor {
         stage: Stage::Between,
         item: 0,
+        empty: false,
         front,
     };
     let mut from = first;

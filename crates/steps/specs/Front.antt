@@ -7,7 +7,7 @@ use Rattle.steps.specs.declared.Step.{Step}
 use Rattle.steps.specs.Steps.{Spot, Moved}
 
 abbrev pub spotTold : List ℕ → Cursor → Spot
-spotTold t c = record { stage = c .stage; item = c .item; rows = rowsAt t (c .front) }
+spotTold t c = record { stage = c .stage; item = c .item; empty = c .empty; rows = rowsAt t (c .front) }
 
 abbrev pub stepTold : List ℕ → Step → Moved
 stepTold t s = record { event = s .event; spot = spotTold t (s .cursor) }

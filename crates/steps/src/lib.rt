@@ -14,10 +14,11 @@ pub enum Stage {
     Ending,
 }
 
-// The same with the item, below 22, and the next kept row.
+// The same with the item, below 22, whether the open block is still empty, with neither number nor word, and the next kept row.
 pub struct Cursor {
     pub stage: Stage,
     pub item: usize,
+    pub empty: bool,
     pub front: Next,
 }
 

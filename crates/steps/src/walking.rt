@@ -29,21 +29,23 @@ use words::datum::read_word;
 use words::datum::word_refusal;
 
 // Before the item that is due from item k on, or behind the last of them.
-fn go_on(rules: Rules, leads: &[u8], k: usize, front: Next) -> Cursor
+fn go_on(rules: Rules, leads: &[u8], empty: bool, k: usize, front: Next) -> Cursor
     requires { ⌜ 256 ≡ length (now leads) ⌝ }
-    ensures { λ r. ⌜ ((t : List ℕ) → spotTold t r ≡ going rules (now (leads .entry)) k (rowsAt t front)) ⌝ }
+    ensures { λ r. ⌜ ((t : List ℕ) → spotTold t r ≡ going rules (now (leads .entry)) empty k (rowsAt t front)) ⌝ }
 {
     let due = due_item(leads, rules.dots, k, front);
     if due < rules.items {
         Cursor {
             stage: Stage::Before,
             item: due,
+            empty,
             front,
         }
     } else {
         Cursor {
             stage: Stage::Ending,
             item: 0,
+            empty,
             front,
         }
     }
@@ -52,7 +54,7 @@ fn go_on(rules: Rules, leads: &[u8], k: usize, front: Next) -> Cursor
 // Between two blocks: nothing is left, or the start of the next.
 fn open_block(tape: &[u8], rules: Rules, leads: &[u8], cursor: Cursor) -> Step
     requires { ⌜ (rules .digits ≤ 18) × (256 ≡ length (now leads)) ⌝ }
-    ensures { λ r. ⌜ stepTold (now (tape .entry)) r ≡ openStep (length (now (tape .entry))) rules (going rules (now (leads .entry))) (spotTold (now (tape .entry)) cursor) (rowsAt (now (tape .entry)) (cursor .front)) ⌝ }
+    ensures { λ r. ⌜ stepTold (now (tape .entry)) r ≡ openStep (length (now (tape .entry))) rules (now (leads .entry)) (spotTold (now (tape .entry)) cursor) (rowsAt (now (tape .entry)) (cursor .front)) ⌝ }
 {
     let front = cursor.front;
     let Next::Row {
@@ -66,10 +68,10 @@ fn open_block(tape: &[u8], rules: Rules, leads: &[u8], cursor: Cursor) -> Step
             cursor,
         };
     };
-    match read_start(tape, rules.digits, front) {
+    match read_start(tape, rules, leads, front) {
         StartRead::Is(begun, next) => Step {
             event: Event::Opened(begun),
-            cursor: go_on(rules, leads, 0, next),
+            cursor: go_on(rules, leads, !begun.numbered, 0, next),
         },
         StartRead::Refused(r) => Step {
             event: Event::Refused(r),
@@ -91,12 +93,13 @@ fn take_item(tape: &[u8], rules: Rules, leads: &[u8], item: Item, cursor: Cursor
             cursor: Cursor {
                 stage: Stage::Ending,
                 item: 0,
+                empty: cursor.empty,
                 front,
             },
         },
         Reach::Out(next) => Step {
             event: Event::Out,
-            cursor: go_on(rules, leads, next_item, next),
+            cursor: go_on(rules, leads, cursor.empty, next_item, next),
         },
         Reach::At(place, data) => {
             let answer = read_word(tape, item, place, data);
@@ -108,7 +111,7 @@ fn take_item(tape: &[u8], rules: Rules, leads: &[u8], item: Item, cursor: Cursor
             };
             Step {
                 event: Event::Read(word),
-                cursor: go_on(rules, leads, next_item, rest),
+                cursor: go_on(rules, leads, false, next_item, rest),
             }
         }
     }
@@ -116,15 +119,16 @@ fn take_item(tape: &[u8], rules: Rules, leads: &[u8], item: Item, cursor: Cursor
 
 // Behind the items: an end.
 fn close_block(tape: &[u8], cursor: Cursor) -> Step
-    ensures { λ r. ⌜ stepTold (now (tape .entry)) r ≡ closesBy (spotTold (now (tape .entry)) cursor) (closeAt (length (now (tape .entry))) (rowsAt (now (tape .entry)) (cursor .front))) ⌝ }
+    ensures { λ r. ⌜ stepTold (now (tape .entry)) r ≡ closesBy (spotTold (now (tape .entry)) cursor) (closeAt (length (now (tape .entry))) (cursor .empty) (rowsAt (now (tape .entry)) (cursor .front))) ⌝ }
 {
     let front = cursor.front;
-    match find_end(tape, front) {
+    match find_end(tape, cursor.empty, front) {
         EndFound::At(lf, after) => Step {
             event: Event::Closed(lf),
             cursor: Cursor {
                 stage: Stage::Between,
                 item: 0,
+                empty: false,
                 front: rows::next_kept(tape, after),
             },
         },

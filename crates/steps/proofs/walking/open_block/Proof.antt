@@ -32,8 +32,8 @@ enum-known-r c = search needs
 returns-2 : tie.Need-returns-2
 returns-2 c =
     left-at _ (c .go-on .ensures _)
-    ∙ (ap (opens _ _) (sym (ap (startTold _) (c .before .before .begun .given .1)) ∙ c .before .before .before .before .read-start .ensures)
-    ∙ sym (open-some _ _ _ _ _ _ _ (ap (rowsAt _) (c .before .before .before .before .before .enum-told .given .1))))
+    ∙ (ap (opens _ _) (sym (ap (startTold _) (c .before .before .before .begun .given .1)) ∙ c .before .before .before .before .before .read-start .ensures)
+    ∙ sym (open-some _ _ _ _ _ _ _ (ap (rowsAt _) (c .before .before .before .before .before .before .enum-told .given .1))))
 
 returns-3 : tie.Need-returns-3
 returns-3 c =
