@@ -1,11 +1,11 @@
 -- The records that no row of the table refuses are exactly those that can stand on a tape; whatever is read can be punched.
 use Prim.Native.Nat.{ℕ, zero, suc, _-_, _^_, _≤_, _<_, zero-le}
 use mathlib.Core.Path.{_≡_, refl, ap, ap₂, subst}
-use mathlib.Core.Bool.{Bool, true, _&&_, not}
+use mathlib.Core.Bool.{Bool, true, false, _&&_, not, cond}
 use mathlib.Core.Logic.{_↔_}
 use mathlib.Core.List.{List, [], _∷_, map}
 use native.Mathlib.Omega.{arith}
-use lib.Dec.{T, T-not, eqb, eqb-refl}
+use lib.Dec.{T, T-not, eqb, ltb, eqb-refl}
 use lib.IntN.{ℤ, pos, negℤ, natAbs}
 use lib.ListN.{length, replicate, length-take}
 use lib.Seq.{take-append-seam}
@@ -25,13 +25,15 @@ use Rattle.shorthand.proofs.Tests.{left, right}
 use Rattle.profile.proofs.Settling.{settled-facts}
 use Rattle.words.specs.declared.Value.{Value}
 use Rattle.words.specs.declared.Word.{Word}
+use Rattle.parts.specs.declared.Begun.{Begun}
+use Rattle.parts.specs.Starts.{unnumbered}
 use Rattle.reading.specs.declared.Block.{Block}
-use Rattle.reading.specs.Record.{blank, blockOf, wordsOf}
+use Rattle.reading.specs.Record.{blank, blockOf, startOf, isEmpty, wordsOf}
 use Rattle.words.specs.Figures.{mayStand}
-use Rattle.reading.specs.Relation.{Punched, in-full, front, back, Signed, never, plus, minus-stands, plus-stands, plus-missing, Data, number, speed, dimension, Worded, word, Words, done, out, here, Blocked, block, Blocks, none, more, Program, program, TapeOf}
-use Rattle.punching.specs.Rows.{minus, blockChars, cleared}
-use Rattle.punching.specs.Fits.{valueFits, wordsFit, recordFits}
-use Rattle.punching.proofs.Records.{punched-stands}
+use Rattle.reading.specs.Relation.{Punched, in-full, front, back, Signed, never, plus, minus-stands, plus-stands, plus-missing, Data, number, speed, dimension, Worded, word, Words, done, out, here, Start, counted, bare, Blocked, block, Blocks, none, more, Program, program, TapeOf}
+use Rattle.punching.specs.Rows.{minus, blockChars, clearedStart, cleared}
+use Rattle.punching.specs.Fits.{unless, valueFits, sequenceFits, wordsFit, recordFits}
+use Rattle.punching.proofs.Records.{empty-cleared, punched-stands}
 use Rattle.punching.proofs.PunchedTapes.{punchedTape, punched-tape}
 
 -- ---- a word
@@ -98,20 +100,38 @@ few-words (here x h) = omega (arith, few-words h)
 
 -- ---- a record
 
-words-of : (skip alignment : Bool) (n : ℕ) (ws : List Word) → wordsOf (blockOf skip alignment n ws) ≡ ws
-words-of skip alignment n ws = take-append-seam ws (replicate (22 - length ws) blank)
+words-of : (s : Begun) (ws : List Word) → wordsOf (blockOf s ws) ≡ ws
+words-of s ws = take-append-seam ws (replicate (22 - length ws) blank)
 
--- a block that stands as some rows has its unused places cleared
+start-cleared : {f : Format} {s : Begun} → Start f s → clearedStart s ≡ s
+start-cleared (counted skip alignment h) = refl
+start-cleared (bare skip h) = refl
+
+-- a block that stands as some rows has all cleared that the punch doesn't look at
 pub block-cleared : {f : Format} {b : Block} {r : List ℕ} → Blocked f b r → cleared b ≡ b
-block-cleared (block {n = n} {ws = ws} skip alignment h w e) = ap (blockOf skip alignment n) (words-of skip alignment n ws)
+block-cleared (block {s} {ws} start some w e) = ap₂ blockOf (start-cleared start) (words-of s ws)
+
+-- its start fits
+start-fit : {f : Format} {s : Begun} (ws : List Word) → Start f s → isEmpty s ws ≡ false → sequenceFits f (blockOf s ws) ≡ taken tt
+start-fit ws (counted skip alignment h) some = rw (lt-ltb _ _ h)
+start-fit ws (bare skip h) some = rw (h, words-of (unnumbered skip) ws, some)
 
 module _ {f : Format} (facts : Facts f) where
   -- and is refused by no row of the table
   pub block-fit : {b : Block} {r : List ℕ} → Blocked f b r → recordFits f b ≡ taken tt
   unfolding recordFits
-  block-fit (block {n = n} {ws = ws} skip alignment h w e) =
+  block-fit (block {s} {ws} start some w e) =
       let few : length ws ≤ 22 = omega (arith, few-words w, length-take (f .count) (f .items), facts .few) in
-      rw (le-leb _ _ few, lt-ltb _ _ h, words-of skip alignment n ws) (words-fit (facts .fair) w 1)
+      rw (le-leb _ _ few, start-fit ws start some, words-of s ws) (words-fit (facts .fair) w 1)
+
+  -- clearing leaves the sequence as fit as it was
+  sequence-cleared : (f : Format) (b : Block) → sequenceFits f (cleared b) ≡ sequenceFits f b
+  sequence-cleared f b = rw (words-of (clearedStart (startOf b)) (wordsOf b), empty-cleared (startOf b) (wordsOf b)) (by (b .numbered))
+    where
+      by : (x : Bool) → cond x (unless (ltb (cond x (b .sequence) 0) (10 ^ f .sequence)) 17 0) (unless (f .unnumbered && not (b .alignment) && not (isEmpty (startOf b) (wordsOf b))) 16 0)
+          ≡ cond x (unless (ltb (b .sequence) (10 ^ f .sequence)) 17 0) (unless (f .unnumbered && not (b .alignment) && not (isEmpty (startOf b) (wordsOf b))) 16 0)
+      by true = refl
+      by false = refl
 
   -- of records with a fit count, exactly those are taken that can stand as some rows
   pub fit-exactly : (b : Block) → b .count ≤ 22 → (recordFits f b ≡ taken tt) ↔ ((r : List ℕ) × Blocked f (cleared b) r)
@@ -120,8 +140,8 @@ module _ {f : Format} (facts : Facts f) where
     λ e. (blockChars f b, punched-stands f facts b e),
     λ h.
         let less : length (wordsOf b) ≤ 22 = omega (arith, length-take (b .count) (b .words)) in
-        let same = words-of (b .skip) (b .alignment) (b .sequence) (wordsOf b) in
-        rw (le-leb (b .count) 22 few) (rw (le-leb (length (wordsOf b)) 22 less, same) at (block-fit (h .1))),
+        let same = words-of (clearedStart (startOf b)) (wordsOf b) in
+        rw (le-leb (b .count) 22 few) (rw (le-leb (length (wordsOf b)) 22 less, sequence-cleared f b, same) at (block-fit (h .1))),
   )
 
   -- ---- what is read can be punched

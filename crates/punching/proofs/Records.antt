@@ -1,7 +1,7 @@
 -- A record that no row of the table refuses stands, as the rows punched for it, in reading's relation; and which refusals a record can have.
 use Prim.Native.Nat.{ℕ, suc, _+_, _^_, _≤_, _<_}
-use mathlib.Core.Path.{_≡_, refl, sym, subst}
-use mathlib.Core.Bool.{Bool, true, false, _&&_, not, cond}
+use mathlib.Core.Path.{_≡_, refl, sym, _∙_, subst}
+use mathlib.Core.Bool.{Bool, true, false, _&&_, not, cond, false≢true}
 use mathlib.Core.List.{List, [], _∷_, _++_, append-nil, append-assoc}
 use native.Mathlib.Omega.{arith}
 use lib.Dec.{T, eqb, leb, ltb}
@@ -28,12 +28,13 @@ use Rattle.words.specs.declared.Value.{Value}
 use Rattle.words.specs.declared.Value.the-variants.{Number}
 use Rattle.words.specs.declared.Word.{Word}
 use Rattle.reading.specs.declared.Block.{Block}
-use Rattle.reading.specs.Record.{wordsOf}
+use Rattle.parts.specs.declared.Begun.{Begun}
+use Rattle.reading.specs.Record.{startOf, isEmpty, wordsOf}
 use Rattle.words.specs.Figures.{mayStand}
-use Rattle.reading.specs.Relation.{digits, Punched, in-full, front, back, Signed, never, plus, minus-stands, plus-stands, Data, number, speed, dimension, word, address, tab, Words, done, out, here, lf, Blocked, block}
+use Rattle.reading.specs.Relation.{digits, Punched, in-full, front, back, Signed, never, plus, minus-stands, plus-stands, Data, number, speed, dimension, word, address, tab, Words, done, out, here, lf, skipRows, startRows, Start, counted, bare, Blocked, block}
 use Rattle.reading.proofs.DigitRows.{digits-length}
-use Rattle.punching.specs.Rows.{minus, signRows, codeRows, dataRows, wordRows, blockChars, cleared}
-use Rattle.punching.specs.Fits.{Fit, unless, coded, valueFits, wordsFit, recordFits}
+use Rattle.punching.specs.Rows.{minus, signRows, codeRows, dataRows, wordRows, blockChars, clearedStart, cleared}
+use Rattle.punching.specs.Fits.{Fit, unless, coded, valueFits, sequenceFits, wordsFit, recordFits}
 
 -- ---- the data of a word at full length
 
@@ -130,20 +131,62 @@ module _ {Q : ℕ → ℕ → Type 0} where
 
 -- ---- a record
 
--- what a record's refusals can be: 16 at 23 for its count, 17 at 0 for its sequence number, and 16 to 18 at a word, from 1
+-- what a record's refusals can be: 16 at 23 for its count, 17 at 0 for its sequence number, 16 at 0 for a number that is missing, and 16 to 18 at a word, from 1
 pub data Fault (f : Format) (b : Block) : ℕ → ℕ → Type 0 where
   crowded : 22 < b .count → Fault f b 16 23
-  unnumbered : b .count ≤ 22 → 10 ^ f .sequence ≤ b .sequence → Fault f b 17 0
+  too-large : b .count ≤ 22 → b .numbered ≡ true → 10 ^ f .sequence ≤ b .sequence → Fault f b 17 0
+  missing : b .count ≤ 22 → b .numbered ≡ false → (f .unnumbered && not (b .alignment) && not (isEmpty (startOf b) (wordsOf b))) ≡ false → Fault f b 16 0
   at-word : {n p : ℕ} → b .count ≤ 22 → WordRefusal n → 1 ≤ p → p ≤ b .count → Fault f b n p
+
+-- a start that fits, of a block that is not empty
+abbrev Begins : Format → Begun → List Word → Type 0
+Begins f s ws = Start f (clearedStart s) × (isEmpty (clearedStart s) ws ≡ false)
+
+-- the rows of a start that is cleared are its own
+cleared-rows : (d : ℕ) (s : Begun) → startRows d (clearedStart s) ≡ startRows d s
+cleared-rows d s = by (s .numbered)
+  where
+    by : (x : Bool) → skipRows (s .skip) ++ cond x (cond (s .alignment) 58 78 ∷ digits d (cond x (s .sequence) 0)) [] ≡ skipRows (s .skip) ++ cond x (cond (s .alignment) 58 78 ∷ digits d (s .sequence)) []
+    by true = refl
+    by false = refl
+
+-- one with a number never is
+numbered-said : (s : Begun) (ws : List Word) → s .numbered ≡ true → isEmpty s ws ≡ false
+numbered-said s [] e = rw e
+numbered-said s (w ∷ ws) e = refl
+
+-- whether it is does not hang on what is cleared
+pub empty-cleared : (s : Begun) (ws : List Word) → isEmpty (clearedStart s) ws ≡ isEmpty s ws
+empty-cleared s [] = refl
+empty-cleared s (w ∷ ws) = refl
+
+not-so : (a : Bool) → not a ≡ true → a ≡ false
+not-so true n = absurd (false≢true n)
+not-so false n = refl
+
+sequence-fits : (f : Format) (b : Block) → b .count ≤ 22 → Holds (Fault f b) (λ _. Begins f (startOf b) (wordsOf b)) (sequenceFits f b)
+sequence-fits f b few = by (b .numbered) refl
+  where
+    by : (x : Bool) → b .numbered ≡ x
+        → Holds (Fault f b) (λ _. Begins f (startOf b) (wordsOf b)) (cond x (unless (ltb (b .sequence) (10 ^ f .sequence)) 17 0) (unless (f .unnumbered && not (b .alignment) && not (isEmpty (startOf b) (wordsOf b))) 16 0))
+    by true e =
+        holds-map (λ _ h. (rw e (counted (b .skip) (b .alignment) (ltb-true _ _ h)), numbered-said (clearedStart (startOf b)) (wordsOf b) e))
+        (tested (ltb (b .sequence) (10 ^ f .sequence)) 17 0 (λ n. too-large few e (ltb-false _ _ n)))
+    by false e =
+        holds-map
+        (λ _ h. let p = both (f .unnumbered && not (b .alignment)) _ h in
+        let q = both (f .unnumbered) _ (p .0) in
+        (rw (e, not-so (b .alignment) (q .1)) (bare (b .skip) (q .0)), empty-cleared (startOf b) (wordsOf b) ∙ not-so _ (p .1)))
+        (tested _ 16 0 (λ n. missing few e n))
 
 record-fits : (f : Format) (b : Block) → Holds (Fault f b) (λ _. Facts f → Blocked f (cleared b) (blockChars f b)) (recordFits f b)
 unfolding recordFits blockChars
 record-fits f b =
     fits-then (tested (leb (b .count) 22) 16 23 (λ e. crowded (leb-false _ _ e)))
     (λ c. let few = leb-true (b .count) 22 c in
-    fits-then (tested (ltb (b .sequence) (10 ^ f .sequence)) 17 0 (λ e. unnumbered few (ltb-false _ _ e)))
+    fits-then (sequence-fits f b few)
     (λ s. holds-map
-    (λ _ h facts. block (b .skip) (b .alignment) (ltb-true _ _ s) (h (facts .fair)) lf)
+    (λ _ h facts. subst (λ x. Blocked f (cleared b) (x ++ (wordRows (wayOf f) (itemsOf f) (wordsOf b) ++ (10 ∷ [])))) (cleared-rows (f .sequence) (startOf b)) (block (s .0) (s .1) (h (facts .fair)) lf))
     (words-fit (wayOf f) 1 (itemsOf f) (wordsOf b) (λ n p h l m. at-word few h l (omega (arith, simp length-take at m))))))
 
 -- the rows of a record that no row of the table refuses stand as that record with its unused places cleared

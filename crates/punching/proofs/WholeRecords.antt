@@ -1,11 +1,12 @@
 -- A whole record by the tests that judge it, and what the buffer holds after.
-use Prim.Native.Nat.{ℕ, _+_, _^_, _≤_, _<_}
+use Prim.Native.Nat.{ℕ, zero, suc, _+_, _^_, _≤_, _<_}
 use mathlib.Core.Path.{_≡_, refl, sym, ap, _∙_}
-use mathlib.Core.Bool.{Bool}
-use mathlib.Core.List.{List, [], _∷_, _++_, append-assoc}
+use mathlib.Core.Bool.{Bool, true, false, not, cond}
+use mathlib.Core.List.{List, [], _∷_, _++_}
 use native.Mathlib.Nat.{le-of-suc-le-suc, not-suc-le-zero}
 use native.Mathlib.Omega.{arith}
-use borrow.Author.Tests.{lt-ltb, le-ltb, le-leb, lt-leb}
+use borrow.Author.Tests.{ltb-true, lt-ltb, le-leb, lt-leb}
+use lib.Dec.{ltb}
 use lib.Count.{ones}
 use lib.ListN.{length, take, drop, set, length-append}
 use lib.Seq.{length-take-le, take-length}
@@ -13,14 +14,16 @@ use Rattle.rows.specs.Answer.{Answer, taken, refused, refusal, void, valueOr, _
 use Rattle.shorthand.specs.declared.Format.{Format}
 use Rattle.shorthand.specs.Layout.{itemsOf, wayOf, emptyFormat}
 use Rattle.profile.specs.Answers.{agreed}
+use Rattle.words.specs.declared.Word.{Word}
 use Rattle.reading.specs.declared.Block.{Block}
-use Rattle.reading.specs.Record.{wordsOf}
-use Rattle.reading.specs.Relation.{skipRows, sequenceRows}
+use Rattle.parts.specs.declared.Begun.{Begun}
+use Rattle.reading.specs.Record.{startOf, isEmpty, wordsOf}
+use Rattle.reading.specs.Relation.{digits, skipRows, sequenceRows, startRows}
 use Rattle.reading.proofs.DigitRows.{digits-length}
 use Rattle.punching.specs.declared.Grown.{Grown}
 use Rattle.punching.specs.declared.Grown.the-variants.{To}
 use Rattle.punching.specs.Rows.{wordRows, blockChars, rowsOf, headRows}
-use Rattle.punching.specs.Fits.{wordsFit, recordFits}
+use Rattle.punching.specs.Fits.{unless, sequenceFits, wordsFit, recordFits}
 use Rattle.punching.specs.Answers.{roomFor, blockFor, blockPunched, written, after}
 use Rattle.punching.specs.Line.{joined, behind, wordsFor, rowsFor, grownTold, endOf}
 use Rattle.punching.proofs.Lines.{joined-more, skip-most}
@@ -33,16 +36,37 @@ head-set (x ∷ y ∷ b) h = refl
 
 -- ---- a record's rows
 
-pub start-most : (skip alignment : Bool) (d n : ℕ) → d ≤ 9 → length (skipRows skip ++ sequenceRows d alignment n) ≤ 11
-start-most skip alignment d n h = omega (arith, length-append (skipRows skip) (sequenceRows d alignment n), skip-most skip, digits-length d n)
+sequence-most : (numbered alignment : Bool) (d n : ℕ) → d ≤ 9 → length (cond numbered (cond alignment 58 78 ∷ digits d n) []) ≤ 10
+sequence-most true alignment d n h = omega (arith, digits-length d n)
+sequence-most false alignment d n h = omega arith
+
+pub start-most : (s : Begun) (d : ℕ) → d ≤ 9 → length (startRows d s) ≤ 11
+start-most s d h = omega (arith, length-append (skipRows (s .skip)) (sequenceRows d s), skip-most (s .skip), sequence-most (s .numbered) (s .alignment) d (s .sequence) h)
+
+-- of 22 places, a block without number has a word where its count is not 0
+pub count-said : (b : Block) → length (b .words) ≡ 22 → b .numbered ≡ false → not (isEmpty (startOf b) (wordsOf b)) ≡ ltb 0 (b .count)
+count-said b long none = by (b .count) (b .words) long
+  where
+    by : (n : ℕ) (ws : List Word) → length ws ≡ 22 → not (isEmpty (startOf b) (take n ws)) ≡ ltb 0 n
+    by zero ws l = rw none
+    by (suc n) [] l = absurd (omega (arith, l))
+    by (suc n) (w ∷ ws) l = sym (lt-ltb 0 (suc n) (omega arith))
 
 -- the start, the words and the LF, one behind the other
-in-turn : (s q w e : List ℕ) → joined [] (s ++ (q ++ (w ++ e))) ≡ joined (joined (joined [] (s ++ q)) w) e
-in-turn s q w e = ap (joined []) (sym (append-assoc s q (w ++ e))) ∙ joined-more [] (s ++ q) (w ++ e) ∙ joined-more (joined [] (s ++ q)) w e
+in-turn : (s w e : List ℕ) → joined [] (s ++ (w ++ e)) ≡ joined (joined (joined [] s) w) e
+in-turn s w e = joined-more [] s (w ++ e) ∙ joined-more (joined [] s) w e
+
+-- a number that fits is small enough for its digits
+pub number-small : (f : Format) (b : Block) → sequenceFits f b ≡ taken tt → b .numbered ≡ true → b .sequence < 10 ^ f .sequence
+number-small f b e n = by (ltb (b .sequence) (10 ^ f .sequence)) refl (rw n at e)
+  where
+    by : (x : Bool) → ltb (b .sequence) (10 ^ f .sequence) ≡ x → unless x 17 0 ≡ taken tt → b .sequence < 10 ^ f .sequence
+    by true q h = ltb-true _ _ q
+    by false q h = let z : _≡_ {A = ℕ} 0 1 = cc in absurd (omega arith)
 
 module _ (f : Format) (b : Block) where
   abbrev start : List ℕ
-  start = skipRows (b .skip) ++ sequenceRows (f .sequence) (b .alignment) (b .sequence)
+  start = startRows (f .sequence) (startOf b)
 
   abbrev words : Answer (List ℕ)
   words = wordsFor 1 (wayOf f) (itemsOf f) (wordsOf b)
@@ -52,14 +76,14 @@ module _ (f : Format) (b : Block) where
   too-many h = rw (lt-leb (b .count) 22 h)
 
   module _ (few : b .count ≤ 22) where
-    pub too-large : 10 ^ f .sequence ≤ b .sequence → rowsFor f b ≡ refused 17 0
+    pub sequence-refused : (n q : ℕ) → sequenceFits f b ≡ refused n q → rowsFor f b ≡ refused n q
     unfolding recordFits
-    too-large h = rw (le-leb (b .count) 22 few, le-ltb (b .sequence) (10 ^ f .sequence) h)
+    sequence-refused n q h = rw (le-leb (b .count) 22 few, h)
 
-    module _ (fits : b .sequence < 10 ^ f .sequence) where
+    module _ (fits : sequenceFits f b ≡ taken tt) where
       by-words : rowsFor f b ≡ wordsFit 1 (itemsOf f) (wordsOf b) >> taken (rowsOf f b)
       unfolding recordFits
-      by-words = rw (le-leb (b .count) 22 few, lt-ltb (b .sequence) (10 ^ f .sequence) fits)
+      by-words = rw (le-leb (b .count) 22 few, fits)
 
       refusing : (a : Answer (Unit {0})) (p xs ys : List ℕ) (n q : ℕ) → refused n q ≡ behind p (a >> taken xs) → a >> taken ys ≡ refused n q
       refusing (taken tt) p xs ys n q e = cc
@@ -78,7 +102,7 @@ module _ (f : Format) (b : Block) where
           let w = wordRows (wayOf f) (itemsOf f) (wordsOf b) in
           by-words
           ∙ taking (wordsFit 1 (itemsOf f) (wordsOf b)) (joined [] start) w (rowsOf f b) r e
-          (in-turn (skipRows (b .skip)) (sequenceRows (f .sequence) (b .alignment) (b .sequence)) w (10 ∷ []))
+          (in-turn start w (10 ∷ []))
 
 -- ---- the buffer
 

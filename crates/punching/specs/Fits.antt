@@ -1,4 +1,4 @@
--- Which records are refused, and where (document 01, refusals 16, 17, 18 and the order of punching).
+-- Which records are refused, and where (documents 01, refusals 16, 17, 18 and the order of punching, and 02, 5/12).
 use Prim.Native.Nat.{ℕ, suc, _^_}
 use mathlib.Core.Bool.{Bool, _&&_, not, cond}
 use mathlib.Core.List.{List, [], _∷_}
@@ -17,7 +17,7 @@ use Rattle.words.specs.declared.Value.{Value}
 use Rattle.words.specs.declared.Value.the-variants.{Number}
 use Rattle.words.specs.declared.Word.{Word}
 use Rattle.reading.specs.declared.Block.{Block}
-use Rattle.reading.specs.Record.{wordsOf}
+use Rattle.reading.specs.Record.{startOf, isEmpty, wordsOf}
 use Rattle.words.specs.Figures.{mayStand}
 use Rattle.punching.specs.Rows.{minus}
 
@@ -52,7 +52,10 @@ wordsFit i [] (w ∷ ws) = refused 16 i
 wordsFit i (it ∷ its) (w ∷ ws) =
     cond (eqb (w .letter) (it .letter)) (valueFits i (it .kind) (w .value) >> wordsFit (suc i) its ws) (wordsFit i its (w ∷ ws))
 
--- count over 22: 16 at 23; then the sequence number: 17 at 0; then the words from the first, counted from 1
+-- a number that does not fit its item is 17; without one, an alignment block, an empty one, and any where there must be a number is 16
+abbrev pub sequenceFits : Format → Block → Fit
+sequenceFits f b = cond (b .numbered) (unless (ltb (b .sequence) (10 ^ f .sequence)) 17 0) (unless (f .unnumbered && not (b .alignment) && not (isEmpty (startOf b) (wordsOf b))) 16 0)
+
+-- count over 22: 16 at 23; then the sequence: 16 or 17 at 0; then the words from the first, counted from 1
 unfoldable pub recordFits : Format → Block → Fit
-recordFits f b =
-    unless (leb (b .count) 22) 16 23 >> unless (ltb (b .sequence) (10 ^ f .sequence)) 17 0 >> wordsFit 1 (itemsOf f) (wordsOf b)
+recordFits f b = unless (leb (b .count) 22) 16 23 >> sequenceFits f b >> wordsFit 1 (itemsOf f) (wordsOf b)

@@ -1,4 +1,4 @@
--- The rows that the punch writes (document 01, "The record", punching): full digits, a sign in every signed item, tabs only up to the last word,
+-- The rows that the punch writes (documents 01, "The record", punching, and 02, 5/12): full digits, a sign in every signed item, tabs only up to the last word,
 -- no addresses where items are known by their tabs alone, even parity.
 use Prim.Native.Nat.{ℕ, _+_}
 use mathlib.Core.Bool.{Bool, true, false, cond}
@@ -17,9 +17,10 @@ use Rattle.shorthand.specs.Layout.{itemsOf, width, Way, wayOf, Sign, barred, re
 use Rattle.words.specs.declared.Value.{Value}
 use Rattle.words.specs.declared.Value.the-variants.{Number}
 use Rattle.words.specs.declared.Word.{Word}
+use Rattle.parts.specs.declared.Begun.{Begun}
 use Rattle.reading.specs.declared.Block.{Block}
-use Rattle.reading.specs.Record.{blockOf, wordsOf}
-use Rattle.reading.specs.Relation.{digits, address, tab, skipRows, sequenceRows}
+use Rattle.reading.specs.Record.{blockOf, startOf, wordsOf}
+use Rattle.reading.specs.Relation.{digits, address, tab, startRows}
 
 -- a character's row: the eighth hole where the others are odd
 abbrev pub rowOf : ℕ → ℕ
@@ -60,8 +61,7 @@ wordRows y (it ∷ its) (w ∷ ws) =
 
 -- a block's characters, LF for its end
 unfoldable pub blockChars : Format → Block → List ℕ
-blockChars f b =
-    skipRows (b .skip) ++ (sequenceRows (f .sequence) (b .alignment) (b .sequence) ++ (wordRows (wayOf f) (itemsOf f) (wordsOf b) ++ (10 ∷ [])))
+blockChars f b = startRows (f .sequence) (startOf b) ++ (wordRows (wayOf f) (itemsOf f) (wordsOf b) ++ (10 ∷ []))
 
 -- the rows of a block
 abbrev pub rowsOf : Format → Block → List ℕ
@@ -71,6 +71,10 @@ rowsOf f b = map rowOf (blockChars f b)
 abbrev pub headRows : List ℕ
 headRows = map rowOf (37 ∷ 10 ∷ [])
 
+-- the field of a number that is missing holds 0
+abbrev pub clearedStart : Begun → Begun
+clearedStart s = record { skip = s .skip; alignment = s .alignment; numbered = s .numbered; sequence = cond (s .numbered) (s .sequence) 0 }
+
 -- a record with all cleared that the punch doesn't look at
 abbrev pub cleared : Block → Block
-cleared b = blockOf (b .skip) (b .alignment) (b .sequence) (wordsOf b)
+cleared b = blockOf (clearedStart (startOf b)) (wordsOf b)

@@ -3,6 +3,7 @@ ghost use mathlib.Core.Path.{_≡_};
 ghost use mathlib.Core.Bool.{Bool};
 ghost use Prim.Native.Nat.{_+_, _≤_, _<_};
 ghost use lib.ListN.{length, take};
+ghost use Rattle.rows.specs.Answer.{told};
 ghost use Rattle.shorthand.specs.declared.Kind.{Kind};
 ghost use Rattle.shorthand.specs.declared.Kind.the-variants.{Plain};
 ghost use Rattle.shorthand.specs.Layout.{itemsOf, wayBy, wayOf, markSign};
@@ -10,6 +11,7 @@ ghost use Rattle.shorthand.specs.Facts.{Facts, Widths};
 ghost use Rattle.words.specs.declared.Value.{Value};
 ghost use Rattle.words.specs.Figures.{mayStand};
 ghost use Rattle.reading.specs.Record.{wordsOf};
+ghost use Rattle.punching.specs.Fits.{sequenceFits};
 ghost use Rattle.punching.specs.Line.{grownTold, endOf, behind, dataFor, wordFor, wordsFor, rowsFor};
 use crate::Grown;
 use crate::line::magnitude_of;
@@ -20,7 +22,9 @@ use crate::line::put_either;
 use crate::line::put_start;
 use crate::line::put_tab;
 use crate::line::ten;
+use parts::Begun;
 use reading::Block;
+use rows::Checked;
 use rows::Refusal;
 use shorthand::Figures;
 use shorthand::Format;
@@ -172,21 +176,48 @@ fn put_words(line: &mut [u8], start: usize, format: Format, block: Block) -> Gro
     Grown::To(at)
 }
 
-// A whole record: its count, its sequence number and then its words are judged, in this order.
+// The number of a block fits its item, or 17; one without number may have none, is no alignment block and has a word, or 16.
+fn judge_sequence(format: Format, block: Block) -> Checked
+    requires { ⌜ Facts format ⌝ }
+    ensures { λ r. ⌜ told r ≡ sequenceFits format block ⌝ }
+{
+    if block.numbered {
+        if ten(format.sequence as usize) <= block.sequence {
+            return Checked::Refused(Refusal {
+                number: 17,
+                place: 0,
+            });
+        }
+        return Checked::Clean;
+    }
+    if format.unnumbered & !block.alignment & (0 < block.count) {
+        return Checked::Clean;
+    }
+    Checked::Refused(Refusal {
+        number: 16,
+        place: 0,
+    })
+}
+
+// A whole record: its count, its sequence and then its words are judged, in this order.
 pub fn compose_block(line: &mut [u8], format: Format, block: Block) -> Grown
     requires { ⌜ (Facts format) × (474 ≤ length (now line)) ⌝ }
     ensures told { λ r. ⌜ grownTold (now (line .exit)) r ≡ rowsFor format block ⌝ }
     ensures end { λ r. ⌜ endOf r ≤ 474 ⌝ }
 {
-    let digits = format.sequence as usize;
-    let sequence = block.sequence;
     if 22 < block.count {
         return refuse(16, 23);
     }
-    if ten(digits) <= sequence {
-        return refuse(17, 0);
+    if let Checked::Refused(r) = judge_sequence(format, block) {
+        return Grown::Refused(r);
     }
-    let start = put_start(line, digits, block.skip, block.alignment, sequence);
+    let begun = Begun {
+        skip: block.skip,
+        alignment: block.alignment,
+        numbered: block.numbered,
+        sequence: block.sequence,
+    };
+    let start = put_start(line, format.sequence as usize, begun);
     let answer = put_words(line, start, format, block);
     let Grown::To(at) = answer else {
         return answer;

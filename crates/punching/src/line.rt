@@ -1,15 +1,16 @@
 // The line that a block's rows are composed in: each put adds rows behind those that stand, and answers how many there are now.
 ghost use mathlib.Core.Path.{_≡_};
-ghost use mathlib.Core.Bool.{Bool, cond};
-ghost use mathlib.Core.List.{[], _∷_, _++_};
+ghost use mathlib.Core.Bool.{Bool, true, cond};
+ghost use mathlib.Core.List.{[], _∷_};
 ghost use Prim.Native.Nat.{_+_, _^_, _≤_, _<_};
 ghost use lib.IntN.{natAbs};
 ghost use lib.ListN.{length};
 ghost use Rattle.shorthand.specs.Layout.{wayBy};
-ghost use Rattle.reading.specs.Relation.{digits, address, tab, skipRows, sequenceRows};
+ghost use Rattle.reading.specs.Relation.{digits, address, tab, skipRows, startRows};
 ghost use Rattle.punching.specs.Rows.{rowOf, minus};
 ghost use Rattle.punching.specs.Line.{Put};
 use crate::Magnitude;
+use parts::Begun;
 use shorthand::Item;
 
 // A dimension has 18 digits at most.
@@ -134,18 +135,15 @@ pub fn put_either(line: &mut [u8], at: usize, first: bool, a: u8, b: u8) -> usiz
     }
 }
 
-// "/" or not, N or ":", and the number.
-pub fn put_start(
-    line: &mut [u8],
-    digits: usize,
-    skip: bool,
-    alignment: bool,
-    sequence: u64,
-) -> usize
-    requires { ⌜ (11 ≤ length (now line)) × (digits ≤ 9) × (sequence < 10 ^ digits) ⌝ }
-    ensures { λ r. ⌜ Put (now (line .entry)) 0 (skipRows skip ++ sequenceRows digits alignment sequence) (now (line .exit)) r ⌝ }
+// "/" or not, and N or ":" and the number, or no number.
+pub fn put_start(line: &mut [u8], digits: usize, start: Begun) -> usize
+    requires { ⌜ (11 ≤ length (now line)) × (digits ≤ 9) × (start .numbered ≡ true → start .sequence < 10 ^ digits) ⌝ }
+    ensures { λ r. ⌜ Put (now (line .entry)) 0 (startRows digits start) (now (line .exit)) r ⌝ }
 {
-    let at = put_skip(line, skip);
-    let next = put_either(line, at, alignment, 58, 78);
-    put_digits(line, next, digits, sequence)
+    let at = put_skip(line, start.skip);
+    if start.numbered {
+        let next = put_either(line, at, start.alignment, 58, 78);
+        return put_digits(line, next, digits, start.sequence);
+    }
+    at
 }

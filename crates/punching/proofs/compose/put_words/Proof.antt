@@ -42,7 +42,7 @@ within : {a k items : ℕ} → a ≤ 11 + 21 * k → k ≤ items → items ≤ 2
 within l d f = omega arith
 
 long : (c : tie.Start Inv-loop μ-loop) → length (c .args .t4 .words) ≡ 22
-long c = simp length-map at (c .good .1 .1 .1 .0 .1 .1 .1 .1 .1 .1 .0 .1 .0 .1)
+long c = simp length-map at (c .good .1 .1 .1 .0 .1 .1 .1 .1 .1 .1 .1 .0 .1 .0 .1)
 
 -- what putting the word answered, behind the tab
 judged : (c : tie.After-put-word Inv-loop μ-loop) →

@@ -1,7 +1,9 @@
--- `punching::line::put_start`: the three puts, one behind the other.
-use borrow.Author.Needs.{needs}
+-- `punching::line::put_start`: the puts one behind the other; without a number "/" alone, or nothing.
 use native.Mathlib.Omega.{arith}
+use mathlib.Core.List.{append-nil}
+use Rattle.reading.specs.Relation.{skipRows}
 use Rattle.punching.proofs.Lines.{put-more, skip-most}
+use borrow.Author.Needs.{needs}
 use Rattle.punching.proofs.line.put_start.Statement.{statement}
 use Rattle.punching.proofs.line.put_start.Tie as tie
 
@@ -9,20 +11,33 @@ put-skip-requires : tie.Need-put-skip-requires
 put-skip-requires c κs = search needs
 
 put-either-requires : tie.Need-put-either-requires
-put-either-requires c κs = omega (arith, c .before .before .before .put-skip .ensures .end, c .before .before .before .put-skip .kept .0, skip-most (c .before .before .before .before .before .before .args .skip))
+put-either-requires c κs = omega (arith, c .before .before .before .before .put-skip .ensures .end, c .before .before .before .before .put-skip .kept .0, skip-most (c .before .before .before .before .before .before .before .args .start .skip))
 
 put-digits-requires : tie.Need-put-digits-requires
 put-digits-requires c κs =
-    let first = c .before .before .before .before .before .before .before in
-    (omega (arith, c .before .before .before .put-either .ensures .end, c .before .before .before .put-either .kept .0, first .put-skip .ensures .end, first .put-skip .kept .0, skip-most (c .before .before .before .before .before .before .before .before .before .before .args .skip)), omega arith, c .before .before .before .before .before .before .before .before .before .before .pre .2)
+    let first = c .before .before .before .before .before .before .before .before in
+    (omega (arith, c .before .before .before .put-either .ensures .end, c .before .before .before .put-either .kept .0, first .put-skip .ensures .end, first .put-skip .kept .0, skip-most (c .before .before .before .before .before .before .before .before .before .before .before .args .start .skip)), omega arith, c .before .before .before .before .before .before .before .before .before .before .before .pre .2 (c .before .before .before .before .before .if1 .taken))
 
 same-length : tie.Need-same-length
 same-length c = search needs
 
 returns : tie.Need-returns
-returns c = put-more (c .before .before .before .before .before .before .before .before .before .before .put-skip .ensures) (put-more (c .before .before .before .before .before .before .put-either .ensures) (c .before .before .put-digits .ensures))
+returns c = rw (c .before .before .before .before .before .before .before .before .if1 .taken) (put-more (c .before .before .before .before .before .before .before .before .before .before .before .put-skip .ensures) (put-more (c .before .before .before .before .before .before .put-either .ensures) (c .before .before .put-digits .ensures)))
+
+same-length-2 : tie.Need-same-length-2
+same-length-2 c = search needs
+
+returns-2 : tie.Need-returns-2
+returns-2 c = rw (c .if1 .left, append-nil (skipRows (c .before .before .before .before .before .before .args .start .skip))) (c .before .before .before .put-skip .ensures)
 
 pub put-start-spec : {M : Type 1} → statement M
 put-start-spec =
     tie.close
-    (tie.spec put-skip-requires put-either-requires put-digits-requires same-length returns)
+    (tie.spec
+    put-skip-requires
+    put-either-requires
+    put-digits-requires
+    same-length
+    returns
+    same-length-2
+    returns-2)
