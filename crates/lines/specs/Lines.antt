@@ -2,12 +2,12 @@
 use Prim.Native.Nat.{ℕ}
 use mathlib.Core.List.{List, [], _∷_, _++_}
 use Rattle.reading.specs.declared.Block.{Block}
-use Rattle.reading.specs.Record.{wordsOf}
+use Rattle.reading.specs.Record.{startOf, wordsOf}
 use Rattle.text.specs.Text.{text, decimal, wordsText, startText}
 
 -- the line of a block under a shorthand whose N item has n digits
 abbrev pub blockLine : ℕ → Block → List ℕ
-blockLine n b = startText n (b .skip) (b .alignment) (b .sequence) ++ (wordsText (wordsOf b) ++ (10 ∷ []))
+blockLine n b = startText n (startOf b) ++ (wordsText (wordsOf b) ++ (10 ∷ []))
 
 -- the last line counts the blocks
 abbrev pub countLine : ℕ → List ℕ

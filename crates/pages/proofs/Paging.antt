@@ -15,15 +15,16 @@ use Rattle.rows.specs.Kept.{KeptRow}
 use Rattle.shorthand.specs.declared.Format.{Format}
 use Rattle.words.specs.declared.Word.{Word}
 use Rattle.parts.specs.declared.Begun.{Begun}
+use Rattle.parts.specs.Starts.{unnumbered}
 use Rattle.parts.specs.declared.Rules.{Rules}
 use Rattle.steps.specs.declared.Event.{Event}
 use Rattle.steps.specs.declared.Event.the-variants.{Finished, Opened, Out, Read, Closed}
 use Rattle.parts.specs.Items.{itemAt}
 use Rattle.steps.specs.Steps.{Spot, Moved, between, stepAt}
-use Rattle.reading.specs.Record.{blank as no-word}
-use Rattle.reading.specs.Parse.{built, Entry, blocksAt}
+use Rattle.reading.specs.Record.{blank as no-word, blockOf}
+use Rattle.reading.specs.Parse.{Entry, blocksAt}
 use Rattle.reading.specs.Front.{Rising}
-use Rattle.reading.proofs.StepLaws.{Under, entryOf, openIn, open-most, effort, Walk, walk-starts, walk-rest, words-few, Further, Goes, goes}
+use Rattle.reading.proofs.StepLaws.{more-come, Under, entryOf, openIn, open-most, effort, Walk, walk-starts, walk-rest, words-few, Further, Goes, goes}
 use Rattle.punching.specs.Answers.{after}
 use Rattle.text.specs.Line.{Put}
 use Rattle.text.specs.Text.{wordText, wordsText, startText}
@@ -55,16 +56,16 @@ end-more from (x ∷ es) e = end-more (x .to) es e
 
 -- what stands of a block that has begun, with these words
 abbrev begunText : ℕ → Begun → List Word → List ℕ
-begunText n b ws = startText n (b .skip) (b .alignment) (b .sequence) ++ wordsText ws
+begunText n b ws = startText n b ++ wordsText ws
 
 word-behind : (n : ℕ) (b : Begun) (ws : List Word) (w : Word) → begunText n b ws ++ wordText w ≡ begunText n b (ws ++ (w ∷ []))
-word-behind n b ws w = rw (words-more ws (w ∷ []), append-nil (wordText w), append-assoc (startText n (b .skip) (b .alignment) (b .sequence)) (wordsText ws) (wordText w))
+word-behind n b ws w = rw (words-more ws (w ∷ []), append-nil (wordText w), append-assoc (startText n b) (wordsText ws) (wordText w))
 
 -- with LF behind it, it is the line of the block
-line-whole : (n : ℕ) (b : Begun) (ws : List Word) → begunText n b ws ++ (10 ∷ []) ≡ blockLine n (built b ws)
+line-whole : (n : ℕ) (b : Begun) (ws : List Word) → begunText n b ws ++ (10 ∷ []) ≡ blockLine n (blockOf b ws)
 line-whole n b ws =
-    append-assoc (startText n (b .skip) (b .alignment) (b .sequence)) (wordsText ws) (10 ∷ [])
-    ∙ ap (λ v. startText n (b .skip) (b .alignment) (b .sequence) ++ (wordsText v ++ (10 ∷ []))) (sym (take-append-seam ws (replicate (22 - length ws) no-word)))
+    append-assoc (startText n b) (wordsText ws) (10 ∷ [])
+    ∙ ap (λ v. startText n b ++ (wordsText v ++ (10 ∷ []))) (sym (take-append-seam ws (replicate (22 - length ws) no-word)))
 
 -- what was put behind the first bytes of a line
 behind-front : {l₀ l cs : List ℕ} {at n : ℕ} → Put l₀ at cs l n → n ≤ length l₀ → take n l ≡ take at l₀ ++ cs
@@ -179,7 +180,7 @@ module _ (len : ℕ) (f : Format) (first : ℕ) (start : List KeptRow) (l₀ : L
 
   pub none-yet : (line : List ℕ) (used : ℕ) → length line ≡ 540 → Rising len first start → Pages (between start) (record { blocks = 0; bytes = 0; next = first }) l₀ line used
   none-yet line used e h =
-      let b : Begun = record { skip = false; alignment = false; sequence = 0 } in
+      let b : Begun = unnumbered false in
       record {
         done = [];
         begun = b;
@@ -222,7 +223,7 @@ module _ (len : ℕ) (f : Format) (first : ℕ) (start : List KeptRow) (l₀ : L
   After es s sheet l line used v Finished = Says es (Lines sheet) l
   After es s sheet l line used v (Opened b) =
       (0 + f .sequence + 24 ≤ length line)
-      × ((line₂ : List ℕ) (n : ℕ) → Put line 0 (startText (f .sequence) (b .skip) (b .alignment) (b .sequence)) line₂ n → n ≤ 0 + f .sequence + 24 → Pages v sheet l line₂ n)
+      × ((line₂ : List ℕ) (n : ℕ) → Put line 0 (startText (f .sequence) b) line₂ n → n ≤ 0 + f .sequence + 24 → Pages v sheet l line₂ n)
       × Nearer (sheet .next) v (sheet .next) s
   After es s sheet l line used v Out = Pages v sheet l line used × Nearer (sheet .next) v (sheet .next) s
   After es s sheet l line used v (Read w) =
@@ -292,7 +293,7 @@ module _ (len : ℕ) (f : Format) (first : ℕ) (start : List KeptRow) (l₀ : L
               within = g .within;
               some = g .some;
               room = put-length p ∙ g .room;
-              begins = rw opened (behind-front p (omega (arith, wide, k)) ∙ sym (append-nil _), omega (arith, p .end, ap length (append-nil (startText (f .sequence) (b .skip) (b .alignment) (b .sequence)))), omega (arith, k));
+              begins = rw opened (behind-front p (omega (arith, wide, k)) ∙ sym (append-nil _), omega (arith, p .end, ap length (append-nil (startText (f .sequence) b))), omega (arith, k));
             }),
             o .nearer,
           )
@@ -341,8 +342,8 @@ module _ (len : ℕ) (f : Format) (first : ℕ) (start : List KeptRow) (l₀ : L
           let shut : openIn (v .stage) ≡ 0 = omega (arith, g .walk .room, o .walk .room, more, most-s, most-v) in
           let t = stands opened in
           let few = words-few len f (length start) first start (g .walk) opened in
-          let line-is : take used line ++ (10 ∷ []) ≡ blockLine (f .sequence) (built (g .begun) (g .words)) = ap (λ x. x ++ (10 ∷ [])) (t .0) ∙ line-whole (f .sequence) (g .begun) (g .words) in
-          let size : length (blockLine (f .sequence) (built (g .begun) (g .words))) ≡ used + 1 =
+          let line-is : take used line ++ (10 ∷ []) ≡ blockLine (f .sequence) (blockOf (g .begun) (g .words)) = ap (λ x. x ++ (10 ∷ [])) (t .0) ∙ line-whole (f .sequence) (g .begun) (g .words) in
+          let size : length (blockLine (f .sequence) (blockOf (g .begun) (g .words))) ≡ used + 1 =
           ap length (sym (line-whole (f .sequence) (g .begun) (g .words))) ∙ length-append (begunText (f .sequence) (g .begun) (g .words)) (10 ∷ []) ∙ omega (arith, t .1) in
           record {
             lf-within = below;
@@ -354,7 +355,7 @@ module _ (len : ℕ) (f : Format) (first : ℕ) (start : List KeptRow) (l₀ : L
             filled = λ k l₂ q r page z. by-full line-is size o k l₂ (fitsIn used (length l) sheet) refl q r page z;
           }
         where
-          by-listed : openIn (v .stage) ≡ 0 → take used line ++ (10 ∷ []) ≡ blockLine (f .sequence) (built (g .begun) (g .words)) → length (blockLine (f .sequence) (built (g .begun) (g .words))) ≡ used + 1
+          by-listed : openIn (v .stage) ≡ 0 → take used line ++ (10 ∷ []) ≡ blockLine (f .sequence) (blockOf (g .begun) (g .words)) → length (blockLine (f .sequence) (blockOf (g .begun) (g .words))) ≡ used + 1
               → Further len f (length start) first start (doneWith lf) (g .begun) (g .words) (g .fuel) (lf + 1) next s v → (sh : Sheet) (l₂ line₂ : List ℕ) (b : Bool) → fitsIn used (length l) sheet ≡ b
               → Listed sh ≡ cond b (Listed (record { blocks = sheet .blocks + 1; bytes = sheet .bytes + (used + 1); next = lf + 1 })) (Full (used + 1)) → length line₂ ≡ length line
               → l₂ ≡ cond b (sets l (sheet .bytes) (take used line ++ (10 ∷ []))) l → Pages v sh l₂ line₂ used
@@ -362,8 +363,8 @@ module _ (len : ℕ) (f : Format) (first : ℕ) (start : List KeptRow) (l₀ : L
           by-listed shut line-is size o sh l₂ line₂ true q z e r =
               let is : sh ≡ record { blocks = sheet .blocks + 1; bytes = sheet .bytes + (used + 1); next = lf + 1 } = cc in
               let room = leb-true (used + 1) (length l - sheet .bytes) q in
-              let line-put : Put l (sheet .bytes) (blockLine (f .sequence) (built (g .begun) (g .words)) ++ []) l₂ (sheet .bytes + (used + 1)) =
-              record { end = omega (arith, size, ap length (append-nil (blockLine (f .sequence) (built (g .begun) (g .words))))); bytes = r ∙ ap (sets l (sheet .bytes)) (line-is ∙ sym (append-nil _)) } in
+              let line-put : Put l (sheet .bytes) (blockLine (f .sequence) (blockOf (g .begun) (g .words)) ++ []) l₂ (sheet .bytes + (used + 1)) =
+              record { end = omega (arith, size, ap length (append-nil (blockLine (f .sequence) (blockOf (g .begun) (g .words))))); bytes = r ∙ ap (sets l (sheet .bytes)) (line-is ∙ sym (append-nil _)) } in
               rw is
               (record {
                 done = doneWith lf;
@@ -385,7 +386,7 @@ module _ (len : ℕ) (f : Format) (first : ℕ) (start : List KeptRow) (l₀ : L
           by-nearer o sh false z = let w : _≡_ {A = ℕ} 0 1 = cc in absurd (omega (arith, w))
           by-nearer o sh true z = let is : sh ≡ record { blocks = sheet .blocks + 1; bytes = sheet .bytes + (used + 1); next = lf + 1 } = cc in rw is (o .nearer)
 
-          by-full : take used line ++ (10 ∷ []) ≡ blockLine (f .sequence) (built (g .begun) (g .words)) → length (blockLine (f .sequence) (built (g .begun) (g .words))) ≡ used + 1
+          by-full : take used line ++ (10 ∷ []) ≡ blockLine (f .sequence) (blockOf (g .begun) (g .words)) → length (blockLine (f .sequence) (blockOf (g .begun) (g .words))) ≡ used + 1
               → Further len f (length start) first start (doneWith lf) (g .begun) (g .words) (g .fuel) (lf + 1) next s v → (k : ℕ) (l₂ : List ℕ) (b : Bool) → fitsIn used (length l) sheet ≡ b
               → Full k ≡ cond b (Listed (record { blocks = sheet .blocks + 1; bytes = sheet .bytes + (used + 1); next = lf + 1 })) (Full (used + 1))
               → l₂ ≡ cond b (sets l (sheet .bytes) (take used line ++ (10 ∷ []))) l → (page : Page) → page ≡ fullAt sheet k → Says es page l₂
@@ -399,7 +400,7 @@ module _ (len : ℕ) (f : Format) (first : ℕ) (start : List KeptRow) (l₀ : L
               rw r (says g (e ∷ rest .0) whole (omega (arith, long, size, same)) page (w ∙ cut-full (f .sequence) sheet (g .done) e (rest .0) k (g .counted) (is ∙ sym size)))
 
       pub page-on : (m : Moved) → m ≡ stepAt len u leads (itemAt f (s .item)) s → (e : Event) → m .event ≡ e → After es s sheet l line used (m .spot) e
-      page-on m q e r = by e (goes len f (length start) first start h (g .walk) (λ z o. omega (arith, o, g .walk .enough (le-refl _))) m q e r)
+      page-on m q e r = by e (goes len f (length start) first start h (g .walk) (more-come len f (length start) first start (g .walk) (le-refl _)) m q e r)
         where
           by : (v : Event) → Goes len f (length start) first start (g .done) (g .begun) (g .words) (g .fuel) next s (m .spot) v → After es s sheet l line used (m .spot) v
           by Finished o = let is : es ≡ g .done = (let z = sym left ∙ o .0 in cc) in says g [] (is ∙ sym (append-nil (g .done))) tt (Lines sheet) (cut-over (f .sequence) sheet (g .done))

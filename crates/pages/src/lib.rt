@@ -92,6 +92,7 @@ pub fn list_page(tape: &[u8], format: Format, from: usize, buffer: &mut [u8]) ->
     let mut cursor = Cursor {
         stage: Stage::Between,
         item: 0,
+        empty: false,
         front: rows::next_kept(tape, from),
     };
     let mut line = [0u8; LINE];

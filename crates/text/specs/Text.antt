@@ -1,8 +1,8 @@
--- The text of numbers, words and a block's start in a listing (document 01, "The listing program"): fields with one space between them.
+-- The text of numbers, words and a block's start in a listing (documents 01, "The listing program", and 02, 4/12 and 5/12): fields with one space between them.
 use Prim.Native.Nat.{ℕ, zero, suc, _+_, _-_, _/_, _%_}
 use Prim.Native.Char.{code}
 use Prim.Native.String.{String, [] as end, _∷_ as _then_}
-use mathlib.Core.Bool.{Bool, cond}
+use mathlib.Core.Bool.{cond}
 use mathlib.Core.List.{List, [], _∷_, _++_}
 use lib.Dec.{ltb}
 use lib.IntN.{natAbs}
@@ -12,6 +12,7 @@ use Rattle.speeds.specs.declared.Speed.the-variants.{Stop, Rapid, Rate}
 use Rattle.words.specs.declared.Value.{Value}
 use Rattle.words.specs.declared.Value.the-variants.{Number, Dimension}
 use Rattle.words.specs.declared.Word.{Word}
+use Rattle.parts.specs.declared.Begun.{Begun}
 use Rattle.reading.specs.Relation.{zeros}
 use Rattle.punching.specs.Rows.{minus}
 
@@ -53,6 +54,10 @@ abbrev pub wordsText : List Word → List ℕ
 wordsText [] = []
 wordsText (w ∷ ws) = wordText w ++ wordsText ws
 
--- N or ":", the sequence number at its full n digits, "/" or "-"
-abbrev pub startText : ℕ → Bool → Bool → ℕ → List ℕ
-startText n skip alignment v = (cond alignment 58 78 ∷ 32 ∷ []) ++ (full n v ++ (32 ∷ cond skip 47 45 ∷ []))
+-- the sequence number at its full n digits, or "-" where there is none
+abbrev pub sequenceText : ℕ → Begun → List ℕ
+sequenceText n s = cond (s .numbered) (full n (s .sequence)) (45 ∷ [])
+
+-- N or ":", the sequence number, "/" or "-"
+abbrev pub startText : ℕ → Begun → List ℕ
+startText n s = (cond (s .alignment) 58 78 ∷ 32 ∷ []) ++ (sequenceText n s ++ (32 ∷ cond (s .skip) 47 45 ∷ []))

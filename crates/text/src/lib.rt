@@ -6,7 +6,7 @@ ghost use Prim.Native.Nat.{_+_, _≤_, _<_, max};
 ghost use lib.ListN.{length};
 ghost use Rattle.io.specs.Digits.{digits, Fewest};
 ghost use Rattle.words.specs.declared.Value.the-variants.{Dimension};
-ghost use Rattle.text.specs.Text.{decimal, full, speedText, valueText, wordText, startText};
+ghost use Rattle.text.specs.Text.{decimal, full, speedText, valueText, wordText, sequenceText, startText};
 ghost use Rattle.text.specs.Line.{Put};
 use parts::Begun;
 use punching::magnitude_of;
@@ -148,18 +148,30 @@ fn either(first: bool, a: u8, b: u8) -> u8
     if first { a } else { b }
 }
 
+// The sequence number, or "-" where there is none.
+fn put_sequence(line: &mut [u8], at: usize, digits: u8, begun: Begun) -> usize
+    requires { ⌜ at + digits + 20 ≤ length (now line) ⌝ }
+    ensures put { λ r. ⌜ Put (now (line .entry)) at (sequenceText digits begun) (now (line .exit)) r ⌝ }
+    ensures end { λ r. ⌜ r ≤ at + digits + 20 ⌝ }
+{
+    if begun.numbered {
+        put_full(line, at, digits, begun.sequence)
+    } else {
+        put(line, at, 45)
+    }
+}
+
 // N or ":", the sequence number, and "/" or "-".
 pub fn put_start(line: &mut [u8], start: usize, digits: u8, begun: Begun) -> usize
     requires { ⌜ start + digits + 24 ≤ length (now line) ⌝ }
-    ensures put { λ r. ⌜ Put (now (line .entry)) start (startText digits (begun .skip) (begun .alignment) (begun .sequence)) (now (line .exit)) r ⌝ }
+    ensures put { λ r. ⌜ Put (now (line .entry)) start (startText digits begun) (now (line .exit)) r ⌝ }
     ensures end { λ r. ⌜ r ≤ start + digits + 24 ⌝ }
 {
     let skip = begun.skip;
     let alignment = begun.alignment;
-    let sequence = begun.sequence;
     let at = put(line, start, either(alignment, 58, 78));
     let number = put(line, at, 32);
-    let next = put_full(line, number, digits, sequence);
+    let next = put_sequence(line, number, digits, begun);
     let mark = put(line, next, 32);
     put(line, mark, either(skip, 47, 45))
 }

@@ -14,8 +14,8 @@ put-requires c κs = search needs
 put-requires-2 : tie.Need-put-requires-2
 put-requires-2 c κs = search needs
 
-put-full-requires : tie.Need-put-full-requires
-put-full-requires c κs = search needs
+put-sequence-requires : tie.Need-put-sequence-requires
+put-sequence-requires c κs = search needs
 
 put-requires-3 : tie.Need-put-requires-3
 put-requires-3 c κs = search needs
@@ -32,7 +32,7 @@ same-length c = search needs
 returns : tie.Need-returns
 returns c = let c₁ = rw (c .before .before .before .before .before .before .before .before .before .before .before .before .before .before .before .before .before .before .before .before .either .ensures) at (c .before .before .before .before .before .before .before .before .before .before .before .before .before .before .before .before .before .before .before .put .ensures) in
     let c₅ = rw (c .before .before .before .either2 .ensures) at (c .before .before .put4 .ensures) in
-    (put-more (put-more c₁ (c .before .before .before .before .before .before .before .before .before .before .before .before .before .before .before .put2 .ensures)) (put-more (c .before .before .before .before .before .before .before .before .before .before .before .put-full .ensures .0) (put-more (c .before .before .before .before .before .before .before .put3 .ensures) c₅)), omega (arith, c .before .before .before .before .before .before .before .before .before .before .before .before .before .before .before .before .before .before .before .put .ensures .end, c .before .before .before .before .before .before .before .before .before .before .before .before .before .before .before .put2 .ensures .end, c .before .before .before .before .before .before .before .before .before .before .before .put-full .ensures .1, c .before .before .before .before .before .before .before .put3 .ensures .end, c .before .before .put4 .ensures .end))
+    (put-more (put-more c₁ (c .before .before .before .before .before .before .before .before .before .before .before .before .before .before .before .put2 .ensures)) (put-more (c .before .before .before .before .before .before .before .before .before .before .before .put-sequence .ensures .0) (put-more (c .before .before .before .before .before .before .before .put3 .ensures) c₅)), omega (arith, c .before .before .before .before .before .before .before .before .before .before .before .before .before .before .before .before .before .before .before .put .ensures .end, c .before .before .before .before .before .before .before .before .before .before .before .before .before .before .before .put2 .ensures .end, c .before .before .before .before .before .before .before .before .before .before .before .put-sequence .ensures .1, c .before .before .before .before .before .before .before .put3 .ensures .end, c .before .before .put4 .ensures .end))
 
 pub put-start-spec : {M : Type 1} → statement M
 put-start-spec =
@@ -41,7 +41,7 @@ put-start-spec =
     either-requires
     put-requires
     put-requires-2
-    put-full-requires
+    put-sequence-requires
     put-requires-3
     either-requires-2
     put-requires-4
