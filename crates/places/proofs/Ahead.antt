@@ -1,8 +1,10 @@
 -- What could stand behind rows that stop somewhere in a program, by the relation alone.
-use Prim.Native.Nat.{ℕ, zero, suc, _+_, _-_, _≤_, zero-le}
+use Prim.Native.Nat.{ℕ, _+_, _-_, _≤_, _<_, zero-le}
+use native.Mathlib.Nat.{zero-lt-suc}
+use native.Mathlib.Omega.{arith}
 use mathlib.Core.Path.{_≡_, refl, sym, ap, _∙_, subst}
 use mathlib.Core.Logic.{_⊎_, inl, inr}
-use mathlib.Core.Bool.{Bool, false}
+use mathlib.Core.Bool.{Bool, true, false}
 use mathlib.Core.List.{List, [], _∷_, _++_, append-nil, append-assoc}
 use lib.ListN.{length, length-replicate}
 use lib.IntN.{ℤ, pos, negℤ}
@@ -13,20 +15,21 @@ use Rattle.shorthand.specs.declared.Kind.{Kind}
 use Rattle.shorthand.specs.declared.Kind.the-variants.{Plain}
 use Rattle.shorthand.specs.declared.Item.{Item}
 use Rattle.shorthand.specs.declared.Format.{Format}
-use Rattle.shorthand.specs.Layout.{Sign, barred, required, optional, signOf, width, itemsOf, wayOf}
-use Rattle.shorthand.specs.Facts.{Widths}
+use Rattle.shorthand.specs.Layout.{Sign, barred, required, optional, signOf, width, itemsOf, Way, wayOf}
+use Rattle.shorthand.specs.Facts.{Widths, Facts}
 use Rattle.words.specs.declared.Value.{Value}
 use Rattle.words.specs.declared.Value.the-variants.{Number}
+use Rattle.parts.specs.declared.Begun.{Begun}
 use Rattle.reading.specs.declared.Block.{Block}
 use Rattle.reading.specs.Record.{blockOf}
-use Rattle.reading.specs.Relation.{zeros, Signed, never, plus, minus, plus-stands, minus-stands, plus-missing, Data, number, speed, dimension, address, done, End, lf, cr-lf, skipRows, sequenceRows, Blocked, block, Blocks, none, more, Program, program}
+use Rattle.reading.specs.Relation.{zeros, Signed, never, plus, minus, plus-stands, minus-stands, plus-missing, Data, number, speed, dimension, address, tab, Words, done, out, End, lf, cr-lf, skipRows, startRows, counted, bare, Blocked, block, Blocks, none, more, Program, program}
 use Rattle.reading.proofs.ReadData.{barred-none}
 use Rattle.reading.proofs.BlocksJoined.{program-append}
-use Rattle.places.specs.Begins.{Digit, Begins, Closes, Reached, Due}
+use Rattle.places.specs.Begins.{Digit, Begins, Closes, Reached, first, Due, Empty}
 use Rattle.places.specs.Faults.{numberRows, Spoilt}
-use Rattle.places.proofs.DigitLists.{zeros-digit, coded, padded, padded-length}
+use Rattle.places.proofs.DigitLists.{zeros-digit, Coded, coded, padded, padded-length}
 use Rattle.places.proofs.SpeedDigits.{Saves, saved, zeros-saved}
-use Rattle.places.proofs.Dues.{Some, SomeWords, stands, Opened, opened, SomeBlock, reached-words}
+use Rattle.places.proofs.Dues.{Some, SomeWords, stands, reached-item, item-widths, Opened, opened, SomeBlock, reached-words}
 
 -- ---- programs, one block longer
 
@@ -46,25 +49,26 @@ closes-begins x y z c e = begins-from x (y ++ (10 ∷ [])) (z ++ (10 ∷ [])) (c
 -- ---- a block
 
 module _ {f : Format} where
-  pub opened-digits : (skip alignment : Bool) (ds : List ℕ) → Every Digit ds → length ds ≡ f .sequence → Opened f (numberRows skip alignment ds)
-  opened-digits skip alignment ds all e =
-      let c = coded (f .sequence) ds all e in
-      subst (λ l. Opened f (numberRows skip alignment l)) (sym (c .2)) (opened skip alignment (c .1))
+  opened-digits : (skip alignment : Bool) (ds : List ℕ) → Every Digit ds → length ds ≡ f .sequence
+      → (n : ℕ) × Opened f (record { skip = skip; alignment = alignment; numbered = true; sequence = n }) (numberRows skip alignment ds)
+  opened-digits skip alignment ds all e = go (coded (f .sequence) ds all e)
+    where
+      go : Coded (f .sequence) ds → (n : ℕ) × Opened f (record { skip = skip; alignment = alignment; numbered = true; sequence = n }) (numberRows skip alignment ds)
+      go (n, small, is) = (n, rw is (opened (counted skip alignment small)))
 
-  pub opened-block : {s u e : List ℕ} → Opened f s → SomeWords (wayOf f) (itemsOf f) u → End e → SomeBlock f (s ++ (u ++ e))
-  opened-block {u = u} {e = e} (opened {n} skip alignment small) ws end =
-      (blockOf skip alignment n (ws .0), rw (append-assoc (skipRows skip) (sequenceRows (f .sequence) alignment n) (u ++ e)) (block skip alignment small (ws .1) end))
+  pub opened-block : {s : Begun} {u r e : List ℕ} → Opened f s u → SomeWords (wayOf f) (itemsOf f) s r → End e → SomeBlock f (u ++ (r ++ e))
+  opened-block (opened {s} start) ws end = (blockOf s (ws .0), block start (ws .1) (ws .2) end)
 
 module _ {f : Format} {bs : List Block} {h : List ℕ} (p : Program f bs h) where
   -- whole words of a started block
-  pub words-close : {s u : List ℕ} → Opened f s → SomeWords (wayOf f) (itemsOf f) u → Closes f (h ++ (s ++ u))
-  words-close {s} {u} o ws e end =
+  pub words-close : {s : Begun} {u r : List ℕ} → Opened f s u → SomeWords (wayOf f) (itemsOf f) s r → Closes f (h ++ (u ++ r))
+  words-close {u = u} {r} o ws e end =
       let q = opened-block o ws end in
-      (bs, q .0, rw (append-assoc h (s ++ u) e, append-assoc s u e) (program-then p (q .1)))
+      (bs, q .0, rw (append-assoc h (u ++ r) e, append-assoc u r e) (program-then p (q .1)))
 
-  pub cr-begins : {s u : List ℕ} → Opened f s → SomeWords (wayOf f) (itemsOf f) u → Begins f (h ++ (s ++ u) ++ (13 ∷ []))
-  cr-begins {s} {u} o ws =
-      begins-from (h ++ (s ++ u) ++ (13 ∷ [])) (10 ∷ []) (h ++ (s ++ u) ++ (13 ∷ 10 ∷ [])) (words-close o ws (13 ∷ 10 ∷ []) cr-lf .2) (simp append-assoc)
+  pub cr-begins : {s : Begun} {u r : List ℕ} → Opened f s u → SomeWords (wayOf f) (itemsOf f) s r → Begins f (h ++ (u ++ r) ++ (13 ∷ []))
+  cr-begins {u = u} {r} o ws =
+      begins-from (h ++ (u ++ r) ++ (13 ∷ [])) (10 ∷ []) (h ++ (u ++ r) ++ (13 ∷ 10 ∷ [])) (words-close o ws (13 ∷ 10 ∷ []) cr-lf .2) (simp append-assoc)
 
   -- digits of the sequence number, fewer than it has or all
   pub number-begins : (skip alignment : Bool) (ds : List ℕ) → Every Digit ds → length ds ≤ f .sequence → Begins f (h ++ numberRows skip alignment ds)
@@ -72,7 +76,7 @@ module _ {f : Format} {bs : List Block} {h : List ℕ} (p : Program f bs h) wher
       let j = f .sequence - length ds in
       let full = ds ++ zeros j in
       let o = opened-digits skip alignment full (every-append Digit ds (zeros j) all (zeros-digit j)) (padded-length (f .sequence) ds most) in
-      closes-begins (h ++ numberRows skip alignment ds) (zeros j) (h ++ (numberRows skip alignment full ++ [])) (words-close o ([], done)) (simp (append-assoc, append-nil))
+      closes-begins (h ++ numberRows skip alignment ds) (zeros j) (h ++ (numberRows skip alignment full ++ [])) (words-close (o .1) ([], refl, done)) (simp (append-assoc, append-nil))
 
   pub start-begins : (skip : Bool) → Begins f (h ++ skipRows skip)
   start-begins skip =
@@ -80,16 +84,15 @@ module _ {f : Format} {bs : List Block} {h : List ℕ} (p : Program f bs h) wher
       begins-from (h ++ skipRows skip) (78 ∷ b .1) (h ++ numberRows skip false [] ++ b .1) (b .2) (simp append-assoc)
 
   -- an item that is reached in a started block is due
-  pub reached-due : {s : List ℕ} (r : List ℕ) (it : Item) → Opened f s → Reached (wayOf f) (itemsOf f) it r → Due f it (h ++ (s ++ r))
-  reached-due r it (opened {n} skip alignment small) h =
-      record { blocks = bs; ended = _; skip = skip; alignment = alignment; number = n; passed = r; program = p; small = small; reached = h; rows = refl }
+  pub reached-due : {s : Begun} {u : List ℕ} (r : List ℕ) (it : Item) → Opened f s u → Reached (wayOf f) (itemsOf f) it r → Due f it (h ++ (u ++ r))
+  reached-due r it (opened {s} start) q = record { blocks = bs; ended = h; start = s; passed = r; program = p; starts = start; reached = q; rows = refl }
 
 -- and each of its words could stand there
 pub due-closes : {f : Format} {it : Item} {x : List ℕ} → Due f it x → {d : List ℕ} → Some (wayOf f) it d → Closes f (x ++ d)
 due-closes {f} {x = x} h {d} q =
-    let s = skipRows (h .skip) ++ sequenceRows (f .sequence) (h .alignment) (h .number) in
+    let s = startRows (f .sequence) (h .start) in
     let e : h .ended ++ (s ++ (h .passed ++ d)) ≡ x ++ d = sym (ap (λ l. l ++ d) (h .rows) ∙ append-assoc (h .ended) (s ++ h .passed) d ∙ ap (λ l. h .ended ++ l) (append-assoc s (h .passed) d)) in
-    subst (Closes f) e (words-close (h .program) (opened (h .skip) (h .alignment) (h .small)) (reached-words (h .reached) q))
+    subst (Closes f) e (words-close (h .program) (opened (h .starts)) (reached-words (h .start) (h .reached) q))
 
 -- ---- a word
 
@@ -155,3 +158,21 @@ module _ {f : Format} (it : Item) (w : Widths (it .kind)) (x : List ℕ) (due : 
       let few : length (zeros j) ≤ width (it .kind) = rw (e, length-replicate) most in
       let o = unspoilt w j (outlook (it .kind) w g (zeros j) (zeros-digit j) few) in
       figures-begin [] (zeros j) (o .1) (o .2)
+
+-- ---- a block with neither number nor word
+
+-- the tabs of items left out reach the item of the last
+left-reached : {y : Way} {its : List Item} {r : List ℕ} → Words y its [] r → 0 < length r → (it : Item) × Reached y its it r
+left-reached done some = absurd (omega arith)
+left-reached {y} (out {it} {r = []} h) some = (it, rw (append-nil (tab y)) first)
+left-reached (out {r = c ∷ r} h) some = let q = left-reached h (zero-lt-suc _) in (q .0, Reached.out (q .1))
+
+pub empty-begins : {f : Format} → Facts f → {x : List ℕ} → Empty f x → Begins f x
+empty-begins {f} facts {x} e = go (e .passed) refl
+  where
+    go : (r : List ℕ) → e .passed ≡ r → Begins f x
+    go [] n = subst (Begins f) (sym (e .rows ∙ ap (λ l. e .ended ++ (skipRows (e .skip) ++ l)) n ∙ ap (λ l. e .ended ++ l) (append-nil (skipRows (e .skip))))) (start-begins (e .program) (e .skip))
+    go (c ∷ r) n =
+        let q = left-reached (e .left-out) (subst (λ l. 0 < length l) (sym n) (zero-lt-suc _)) in
+        let at : e .ended ++ (skipRows (e .skip) ++ [] ++ e .passed) ≡ x = sym (e .rows ∙ ap (λ l. e .ended ++ (l ++ e .passed)) (sym (append-nil (skipRows (e .skip))))) in
+        before-begins (q .0) (item-widths (facts .fair) (reached-item (q .1))) x (subst (Due f (q .0)) at (reached-due (e .program) (e .passed) (q .0) (opened (bare (e .skip) (e .allowed))) (q .1)))

@@ -2,7 +2,7 @@
 use Prim.Native.Nat.{ℕ, _^_, _<_}
 use mathlib.Core.Path.{_≡_, sym, ap, subst}
 use mathlib.Core.Logic.{_⊎_, inl, inr}
-use mathlib.Core.Bool.{Bool, true, false}
+use mathlib.Core.Bool.{Bool, true, false, cond}
 use mathlib.Core.List.{List, [], _∷_, _++_}
 use native.Mathlib.Omega.{arith}
 use lib.IntN.{ℤ}
@@ -15,8 +15,9 @@ use Rattle.shorthand.specs.declared.Format.{Format}
 use Rattle.shorthand.specs.Layout.{Way, by-letter, by-both, by-tab, Sign, itemsOf}
 use Rattle.words.specs.declared.Value.{Value}
 use Rattle.words.specs.declared.Word.{Word}
+use Rattle.parts.specs.declared.Begun.{Begun}
 use Rattle.reading.specs.declared.Block.{Block}
-use Rattle.reading.specs.Relation.{digits, Signed, never, plus, minus, plus-stands, minus-stands, plus-missing, Data, number, speed, dimension, Worded, word, tab, Words, done, out, here, End, skipRows, sequenceRows, Blocked, block, Blocks, Program, program}
+use Rattle.reading.specs.Relation.{digits, Signed, never, plus, minus, plus-stands, minus-stands, plus-missing, Data, number, speed, dimension, Worded, word, tab, Words, done, out, here, End, skipRows, startRows, Start, counted, bare, Blocked, block, Blocks, Program, program}
 use Rattle.reading.proofs.DigitRows.{digits-digit}
 use Rattle.speeds.proofs.Answers.{read-short}
 use Rattle.reading.proofs.WordTakes.{reads}
@@ -80,11 +81,14 @@ module _ (c : ℕ) where
         words-behind {y} all (here {w = w} {d = d} {r = r} q h) =
             behind-both (tab y) (d ++ r) (tab-behind y) (behind-both d r (all .0 y w d q) (words-behind (all .1) h))
 
-        module _ (f : Format) (of-words : Every OfWords (itemsOf f)) (of-number : (alignment : Bool) (n : ℕ) → n < 10 ^ f .sequence → Behind c F (sequenceRows (f .sequence) alignment n)) where
+        module _ (f : Format) (of-words : Every OfWords (itemsOf f)) (of-number : (alignment : Bool) (n : ℕ) → n < 10 ^ f .sequence → Behind c F (cond alignment 58 78 ∷ digits (f .sequence) n)) where
+          start-behind : {s : Begun} → Start f s → Behind c F (startRows (f .sequence) s)
+          start-behind (counted {n} skip alignment small) = behind-both (skipRows skip) (cond alignment 58 78 ∷ digits (f .sequence) n) (skip-behind skip) (of-number alignment n small)
+          start-behind (bare skip allowed) = behind-both (skipRows skip) [] (skip-behind skip) (behind-none [] tt)
+
           block-behind : {b : Block} {x : List ℕ} → Blocked f b x → Behind c F x
-          block-behind (block {n} {r = r} {e = e} skip alignment small w end) =
-              behind-both (skipRows skip) (sequenceRows (f .sequence) alignment n ++ (r ++ e)) (skip-behind skip)
-              (behind-both (sequenceRows (f .sequence) alignment n) (r ++ e) (of-number alignment n small) (behind-both r e (words-behind of-words w) (of-end e end)))
+          block-behind (block {s} {r = r} {e = e} start some w end) =
+              behind-both (startRows (f .sequence) s) (r ++ e) (start-behind start) (behind-both r e (words-behind of-words w) (of-end e end))
 
           blocks-behind : {bs : List Block} {x : List ℕ} → Blocks f bs x → Behind c F x
           blocks-behind Blocks.none = behind-none [] tt

@@ -15,7 +15,8 @@ use Rattle.shorthand.specs.Layout.{blank, itemsOf, Way, by-letter, by-both, by-
 use Rattle.shorthand.specs.Facts.{Fair, more, Facts}
 use Rattle.shorthand.proofs.OneItem.{none-other}
 use Rattle.words.specs.Figures.{isFigure}
-use Rattle.reading.specs.Relation.{digits, address, Worded, tab, skipRows, sequenceRows}
+use Rattle.parts.specs.declared.Begun.{Begun}
+use Rattle.reading.specs.Relation.{digits, address, Worded, tab, startRows, Start, counted, bare}
 use Rattle.reading.proofs.DigitRows.{digits-digit}
 use Rattle.reading.proofs.WordsTake.{fails}
 use Rattle.places.specs.Begins.{Digit, Reached, first, out, here, Due}
@@ -75,9 +76,14 @@ mark-level : (alignment : Bool) → Level (cond alignment 58 78)
 mark-level true = (refl, refl)
 mark-level false = (refl, refl)
 
-start-level : (skip alignment : Bool) (d n : ℕ) → n < 10 ^ d → Every Level (skipRows skip ++ sequenceRows d alignment n)
-start-level true alignment d n h = ((refl, refl), (mark-level alignment, every-digit digit-level (refl, refl) (refl, refl) (digits d n) (digits-digit d n h)))
-start-level false alignment d n h = (mark-level alignment, every-digit digit-level (refl, refl) (refl, refl) (digits d n) (digits-digit d n h))
+number-level : (alignment : Bool) (d n : ℕ) → n < 10 ^ d → Every Level (cond alignment 58 78 ∷ digits d n)
+number-level alignment d n h = (mark-level alignment, every-digit digit-level (refl, refl) (refl, refl) (digits d n) (digits-digit d n h))
+
+start-level : {f : Format} {s : Begun} → Start f s → Every Level (startRows (f .sequence) s)
+start-level {f} (counted {n} true alignment h) = ((refl, refl), number-level alignment (f .sequence) n h)
+start-level {f} (counted {n} false alignment h) = number-level alignment (f .sequence) n h
+start-level (bare true allowed) = ((refl, refl), tt)
+start-level (bare false allowed) = tt
 
 -- the tabs that reach an item count it
 reached-level : {its : List Item} {it : Item} {r : List ℕ} → Reached by-tab its it r → Fair its → (k : ℕ) → (i : ℕ) × (level k r ≡ k + suc i) × (getD its i blank ≡ it)
@@ -91,11 +97,11 @@ reached-level (here {d = d} {r = r} p h) (more l w _ f) k =
 due-level : {f : Format} → Facts f → wayOf f ≡ by-tab → {it : Item} {x : List ℕ} → Due f it x → (i : ℕ) × (level 0 x ≡ suc i) × (getD (itemsOf f) i blank ≡ it)
 unfolding level
 due-level {f} facts y {it} h =
-    let s = skipRows (h .skip) ++ sequenceRows (f .sequence) (h .alignment) (h .number) in
+    let s = startRows (f .sequence) (h .start) in
     let q = reached-level (subst (λ v. Reached v (itemsOf f) it (h .passed)) y (h .reached)) (facts .fair) 0 in
     let e = program-lf (h .program) in
     let ended : level 0 (h .ended) ≡ 0 = ap (level 0) (e .1) ∙ level-append 0 (e .0) (10 ∷ []) in
-    let started : level 0 s ≡ 0 = level-kept 0 s (start-level (h .skip) (h .alignment) (f .sequence) (h .number) (h .small)) in (
+    let started : level 0 s ≡ 0 = level-kept 0 s (start-level (h .starts)) in (
       q .0,
       ap (level 0) (h .rows) ∙ level-append 0 (h .ended) (s ++ h .passed) ∙ ap (λ k. level k (s ++ h .passed)) ended ∙ level-append 0 s (h .passed) ∙ ap (λ k. level k (h .passed)) started
           ∙ omega (arith, q .1),
@@ -113,7 +119,7 @@ reached-ends {y} (here {d = d} {r = r} p h) =
 due-ends : {f : Format} {it : Item} {x : List ℕ} → Due f it x → (u : List ℕ) × (x ≡ u ++ tab (wayOf f))
 due-ends {f} h =
     let q = reached-ends (h .reached) in
-    let s = skipRows (h .skip) ++ sequenceRows (f .sequence) (h .alignment) (h .number) in
+    let s = startRows (f .sequence) (h .start) in
     (h .ended ++ (s ++ q .0), h .rows ∙ ap (λ l. h .ended ++ (s ++ l)) (q .1) ∙ sym (append-assoc (h .ended) (s ++ q .0) (tab (wayOf f)) ∙ ap (λ l. h .ended ++ l) (append-assoc s (q .0) (tab (wayOf f)))))
 
 -- the last row before an item's data is its letter, or its tab

@@ -2,10 +2,11 @@
 use Prim.Native.Nat.{ℕ, _≤_, _<_}
 use mathlib.Core.Path.{_≡_, refl, sym, ap, _∙_, subst}
 use mathlib.Core.Logic.{_⊎_, inl, inr}
-use mathlib.Core.Bool.{true, false, cond, false≢true}
+use mathlib.Core.Bool.{true, cond, false≢true}
 use mathlib.Core.List.{List, [], _∷_, _++_, append-assoc, append-nil}
 use native.Mathlib.Nat.{zero-lt-suc}
 use native.Mathlib.Omega.{arith}
+use lib.Dec.{lit<}
 use lib.ListN.{length, length-append}
 use lib.IntN.{ℤ}
 use Rattle.rows.specs.Kept.{KeptRow}
@@ -13,20 +14,23 @@ use Rattle.rows.specs.Passes.{Every}
 use Rattle.shorthand.specs.declared.Kind.{Kind}
 use Rattle.shorthand.specs.declared.Item.{Item}
 use Rattle.shorthand.specs.declared.Format.{Format}
-use Rattle.shorthand.specs.Layout.{Way, wayOf, width, missingOf, fewest, barred, signOf}
+use Rattle.shorthand.specs.Layout.{wayOf, width, missingOf, fewest, barred, signOf}
 use Rattle.shorthand.specs.Facts.{Facts}
 use Rattle.reading.specs.declared.Block.{Block}
 use Rattle.reading.specs.Relation.{Signed, address, End, lf, cr-lf, skipRows, Program, program, chars}
 use Rattle.reading.proofs.ReadData.{barred-none}
+use Rattle.reading.proofs.BlockTakes.{end-some}
 use Rattle.places.specs.Begins.{Digit, Begins, Closes, Due}
 use Rattle.places.specs.Faults.{Miscounted, too-few, too-many, SignFault, GoesOn, lastOf, EndDue, of-head, of-block, Cut, in-head, in-block, SpeedDue}
+use Rattle.places.proofs.DigitLists.{last-behind}
 use Rattle.places.proofs.Behind.{every-digit}
 use Rattle.places.proofs.Splits.{Split, same, sooner, later, compare}
 use Rattle.places.proofs.Called.{stem-called, called-same}
 use Rattle.places.proofs.Stems.{stem, Figure, digit-figure, stem-at, inHead, inNumber, inWord, head-word, number-word, stem-number, stem-start, figures-all}
 use Rattle.places.proofs.Marks.{cr-follows}
-use Rattle.places.proofs.EndsAlone.{end-some, not-head, right-behind, not-many}
-use Rattle.places.proofs.OneNumber.{Spot, percent, head-end, block-end, start, number, figures, sign}
+use Rattle.places.proofs.Empties.{inEmpty, empty-last, low-stops, idle-word}
+use Rattle.places.proofs.EndsAlone.{not-head, right-behind, not-many}
+use Rattle.places.proofs.OneNumber.{Spot, percent, head-end, block-end, start, empty, tabbed, number, figures, sign}
 
 pub begins-front : {f : Format} (a b : List ℕ) → Begins f (a ++ b) → Begins f a
 begins-front {f} a b (bs, o, p) = (bs, b ++ o, subst (λ x. Program f bs x) (append-assoc a b o) p)
@@ -34,17 +38,25 @@ begins-front {f} a b (bs, o, p) = (bs, b ++ o, subst (λ x. Program f bs x) (app
 -- ---- behind a CR nothing is out of place
 
 module _ {f : Format} (facts : Facts f) where
-  -- rows by their last character that is no figure
-  stem-spot : {x : List ℕ} {c n : ℕ} → Spot f x c n → (Closes f x) ⊎ ((inHead (stem x) ≡ true) ⊎ ((inNumber (stem x) ≡ true) ⊎ inWord (stem x)))
+  -- rows by their last character, and by their last that is no figure
+  data Stem (x : List ℕ) : Type 0 where
+    closes : Closes f x → Stem x
+    in-empty : inEmpty (lastOf x) → Stem x
+    in-start : (inHead (stem x) ≡ true) ⊎ (inNumber (stem x) ≡ true) → Stem x
+    in-words : inWord (stem x) → Stem x
+
+  stem-spot : {x : List ℕ} {c n : ℕ} → Spot f x c n → Stem x
   unfolding stem
-  stem-spot (percent e) = inr (inl (rw e))
-  stem-spot (head-end e) = inr (inl (rw e))
-  stem-spot (block-end k d) = inl k
-  stem-spot (start h skip p e) = inr (inr (inl (rw e (stem-start facts h skip p))))
+  stem-spot (percent e) = in-start (inl (rw e))
+  stem-spot (head-end e) = in-start (inl (rw e))
+  stem-spot (block-end k d) = closes k
+  stem-spot (start h skip p e cr) = in-start (inr (rw e (stem-start facts h skip p)))
+  stem-spot (empty e q) = in-empty (empty-last e)
+  stem-spot (tabbed e some a b d) = in-empty (empty-last e)
   stem-spot (number h skip alignment ds e all m) =
-      inr (inr (inl (rw (e ∙ sym (append-assoc h (skipRows skip) (cond alignment 58 78 ∷ ds))) (stem-number facts (h ++ skipRows skip) alignment ds all))))
-  stem-spot {x} (figures it y s ds due e g all m none) = inr (inr (inr (stem-called facts due (s ++ ds) (figures-all facts s ds g all) x e)))
-  stem-spot {x} (sign it y due e h) = inr (inr (inr (stem-called facts due [] tt x (e ∙ sym (append-nil (y ++ address (wayOf f) it))))))
+      in-start (inr (rw (e ∙ sym (append-assoc h (skipRows skip) (cond alignment 58 78 ∷ ds))) (stem-number facts (h ++ skipRows skip) alignment ds all)))
+  stem-spot {x} (figures it y s ds due e g all m none) = in-words (stem-called facts due (s ++ ds) (figures-all facts s ds g all) x e)
+  stem-spot {x} (sign it y due e h) = in-words (stem-called facts due [] tt x (e ∙ sym (append-nil (y ++ address (wayOf f) it))))
 
   pub behind-cr : (y : List ℕ) {c n : ℕ} → Spot f (y ++ (13 ∷ [])) c n → ⊥
   behind-cr y h = go (stem-spot h)
@@ -52,15 +64,16 @@ module _ {f : Format} (facts : Facts f) where
       at : stem (y ++ (13 ∷ [])) ≡ 13
       at = stem-at y 13 [] refl (λ e. omega arith) tt
 
-      go : (Closes f (y ++ (13 ∷ []))) ⊎ ((inHead (stem (y ++ (13 ∷ []))) ≡ true) ⊎ ((inNumber (stem (y ++ (13 ∷ []))) ≡ true) ⊎ inWord (stem (y ++ (13 ∷ []))))) → ⊥
-      go (inl k) =
+      go : Stem (y ++ (13 ∷ [])) → ⊥
+      go (closes k) =
           let q = k (13 ∷ 10 ∷ []) cr-lf in
           let p = cr-follows f facts (q .2) y (13 ∷ 10 ∷ []) (append-assoc y (13 ∷ []) (13 ∷ 10 ∷ [])) in
           let z : _≡_ {A = ℕ} 13 10 = cc (p .1) in
           omega arith
-      go (inr (inl k)) = false≢true (ap inHead (sym at) ∙ k)
-      go (inr (inr (inl k))) = false≢true (ap inNumber (sym at) ∙ k)
-      go (inr (inr (inr k))) = subst inWord at k
+      go (in-empty k) = subst inEmpty (last-behind y (13 ∷ []) (zero-lt-suc 0)) k
+      go (in-start (inl k)) = false≢true (ap inHead (sym at) ∙ k)
+      go (in-start (inr k)) = false≢true (ap inNumber (sym at) ∙ k)
+      go (in-words k) = subst inWord at k
 
 -- ---- in a speed's word
 
@@ -91,7 +104,9 @@ module _ {f : Format} (facts : Facts f) {k : ℕ} {it : Item} {y : List ℕ} (du
           let e : X ++ u ≡ X = ap (λ z. X ++ z) n ∙ append-nil X in
           right-behind facts (due .due) c d (subst (Closes f) e q) (λ o. h (subst (λ z. GoesOn (wayOf f) (lastOf z) c) (sym e) o))
       go (x ∷ v) n = not-many facts (X ++ u) c X u refl all (subst (λ z. 0 < length z) (sym n) (zero-lt-suc _)) d (q, h)
-  inside-word {c} few d (start h skip p e) = number-word (stem (X ++ u)) (rw e (stem-start facts h skip p)) in-word
+  inside-word {c} few d (empty e q) = omega arith
+  inside-word {c} few d (tabbed e some a b h) = idle-word facts (record { block = e; firm = h }) y u (due .due) figured refl (λ n t. inl d)
+  inside-word {c} few d (start h skip p e cr) = number-word (stem (X ++ u)) (rw e (stem-start facts h skip p)) in-word
   inside-word {c} few d (number h skip alignment ds e each m) =
       number-word (stem (X ++ u)) (rw (e ∙ sym (append-assoc h (skipRows skip) (cond alignment 58 78 ∷ ds))) (stem-number facts (h ++ skipRows skip) alignment ds each)) in-word
   inside-word {c} few d (figures jt w s ds h e g each (too-few l n) none) = n d
@@ -118,15 +133,10 @@ module _ {f : Format} (facts : Facts f) {k : ℕ} {it : Item} {y : List ℕ} (du
 
 -- ---- two ends, and two tapes that end too soon
 
--- no character 0 goes on with "%"
-no-figure : {y : Way} → GoesOn y 37 0 → ⊥
-no-figure (GoesOn.digit-behind d e) = omega arith
-no-figure (GoesOn.data-behind t e h) = omega arith
-
 ends-one : {f : Format} → Facts f → {n m : ℕ} {x : List ℕ} → EndDue f n x → EndDue f m x → n ≡ m
 ends-one facts of-head of-head = refl
-ends-one facts of-head (of-block k) = absurd (not-head facts (37 ∷ []) 0 refl (k, λ o. no-figure o))
-ends-one facts (of-block k) of-head = absurd (not-head facts (37 ∷ []) 0 refl (k, λ o. no-figure o))
+ends-one facts of-head (of-block k) = absurd (not-head facts (37 ∷ []) 0 refl (k, low-stops (lit< tt)))
+ends-one facts (of-block k) of-head = absurd (not-head facts (37 ∷ []) 0 refl (k, low-stops (lit< tt)))
 ends-one facts (of-block k) (of-block h) = refl
 
 pub cr-cr : {f : Format} → Facts f → {n m : ℕ} (b h : List KeptRow) (c e : KeptRow) → b ++ (c ∷ []) ≡ h ++ (e ∷ []) → EndDue f n (chars b) → EndDue f m (chars h) → (n ≡ m) × (c .place ≡ e .place)

@@ -46,10 +46,13 @@ pub last-behind : (x y : List ℕ) → 0 < length y → lastOf (x ++ y) ≡ last
 last-behind x [] some = absurd (omega arith)
 last-behind x (c ∷ y) some = last-append x c y
 
+pub last-every : (P : ℕ → Type 0) (x : List ℕ) → Every P x → 0 < length x → P (lastOf x)
+last-every P [] all l = absurd (omega arith)
+last-every P (c ∷ []) all l = all .0
+last-every P (c ∷ (d ∷ x)) all l = last-every P (d ∷ x) (all .1) (zero-lt-suc _)
+
 pub last-digit : (ds : List ℕ) → Every Digit ds → 0 < length ds → Digit (lastOf ds)
-last-digit [] all l = absurd (omega arith)
-last-digit (c ∷ []) all l = all .0
-last-digit (c ∷ (d ∷ ds)) all l = last-digit (d ∷ ds) (all .1) (zero-lt-suc _)
+last-digit ds all l = last-every Digit ds all l
 
 -- ---- the number that they are
 

@@ -1,9 +1,8 @@
 -- An item that is due: it is one of the Format's, and each of its words makes whole words of the rows that reach it.
 use mathlib.Core.Path.{_≡_, refl, sym, ap, subst}
 use mathlib.Core.List.{List, [], _∷_, _++_, append-assoc, append-nil, map, List·Memᴰ, List·Memᴰ·head, List·Memᴰ·tail}
-use mathlib.Core.Bool.{Bool, true, false}
-use Prim.Native.Nat.{ℕ, _^_, _<_}
-use native.Mathlib.Nat.{zero-lt-suc}
+use mathlib.Core.Bool.{false}
+use Prim.Native.Nat.{ℕ}
 use lib.ListN.{length}
 use native.Mathlib.Omega.{arith}
 use lib.Dec.{T, eqb}
@@ -15,16 +14,18 @@ use Rattle.shorthand.specs.Layout.{itemsOf, Way}
 use Rattle.shorthand.specs.Facts.{Widths, Fair, more}
 use Rattle.words.specs.declared.Value.{Value}
 use Rattle.words.specs.declared.Word.{Word}
+use Rattle.parts.specs.declared.Begun.{Begun}
 use Rattle.reading.specs.declared.Block.{Block}
-use Rattle.reading.specs.Relation.{Data, address, Worded, word, tab, Words, done, out, here, skipRows, sequenceRows, Blocked, chars}
+use Rattle.reading.specs.Record.{isEmpty}
+use Rattle.reading.specs.Relation.{Data, address, Worded, word, tab, Words, done, out, here, startRows, Start, Blocked, chars}
 use Rattle.places.specs.Begins.{Reached, first, Due}
 
--- some word of the item, and some words of the items
+-- some word of the item, and some words of the items that a block with this start may have
 abbrev pub Some : Way → Item → List ℕ → Type 0
 Some y it u = (w : Word) × Worded y it w u
 
-abbrev pub SomeWords : Way → List Item → List ℕ → Type 0
-SomeWords y its u = (ws : List Word) × Words y its ws u
+abbrev pub SomeWords : Way → List Item → Begun → List ℕ → Type 0
+SomeWords y its s u = (ws : List Word) × (isEmpty s ws ≡ false) × Words y its ws u
 
 pub stands : (y : Way) (it : Item) {x : Value} {d : List ℕ} → Data (it .kind) x d → Some y it (address y it ++ d)
 stands y it {x} q = (record { letter = it .letter; value = x }, word q)
@@ -49,21 +50,17 @@ item-letter (more l w d f) (List·Memᴰ·tail m) = item-letter f m
 
 -- ---- its words
 
-pub reached-words : {y : Way} {its : List Item} {it : Item} {r : List ℕ} → Reached y its it r → {d : List ℕ} → Some y it d → SomeWords y its (r ++ d)
-reached-words {y} (first {it} {its}) {d} q = (q .0 ∷ [], subst (λ x. Words y (it ∷ its) (q .0 ∷ []) (tab y ++ x)) (append-nil d) (here (q .1) done))
-reached-words {y} (Reached.out {r = r} h) {d} q = let k = reached-words h q in (k .0, rw (append-assoc (tab y) r d) (out (k .1)))
-reached-words {y} (Reached.here {w = w} {d = e} {r = r} p h) {d} q =
-    let k = reached-words h q in (w ∷ k .0, rw (append-assoc (tab y) (e ++ r) d, append-assoc e r d) (here p (k .1)))
+pub reached-words : (s : Begun) {y : Way} {its : List Item} {it : Item} {r : List ℕ} → Reached y its it r → {d : List ℕ} → Some y it d → SomeWords y its s (r ++ d)
+reached-words s {y} (first {it} {its}) {d} q = (q .0 ∷ [], refl, subst (λ x. Words y (it ∷ its) (q .0 ∷ []) (tab y ++ x)) (append-nil d) (here (q .1) done))
+reached-words s {y} (Reached.out {r = r} h) {d} q = let k = reached-words s h q in (k .0, k .1, rw (append-assoc (tab y) r d) (out (k .2)))
+reached-words s {y} (Reached.here {w = w} {d = e} {r = r} p h) {d} q =
+    let k = reached-words s h q in (w ∷ k .0, refl, rw (append-assoc (tab y) (e ++ r) d, append-assoc e r d) (here p (k .2)))
 
 -- ---- a started block
 
--- "/" or none, and a whole sequence word
-pub data Opened (f : Format) : List ℕ → Type 0 where
-  opened : {n : ℕ} (skip alignment : Bool) → n < 10 ^ f .sequence → Opened f (skipRows skip ++ sequenceRows (f .sequence) alignment n)
-
-pub opened-some : {f : Format} {s : List ℕ} → Opened f s → (r : List ℕ) → 0 < length (s ++ r)
-opened-some (opened true alignment small) r = zero-lt-suc _
-opened-some (opened false alignment small) r = zero-lt-suc _
+-- the rows of a start
+pub data Opened (f : Format) : Begun → List ℕ → Type 0 where
+  opened : {s : Begun} → Start f s → Opened f s (startRows (f .sequence) s)
 
 abbrev pub SomeBlock : Format → List ℕ → Type 0
 SomeBlock f u = (b : Block) × Blocked f b u

@@ -14,10 +14,10 @@ use Rattle.shorthand.specs.declared.Format.{Format}
 use Rattle.shorthand.specs.Layout.{Way, by-letter, by-both, by-tab, wayOf, width, missingOf, fewest, Sign, signOf}
 use Rattle.shorthand.specs.Facts.{Facts}
 use Rattle.reading.specs.declared.Block.{Block}
-use Rattle.reading.specs.Relation.{Signed, address, End, lf, cr-lf, skipRows, Blocks, Program, program}
+use Rattle.reading.specs.Relation.{Signed, address, lf, skipRows, Blocks, Program, program}
 use Rattle.words.specs.Figures.{isFigure}
 use Rattle.reading.proofs.RowsAhead.{heads}
-use Rattle.reading.proofs.BlockTakes.{block-some}
+use Rattle.reading.proofs.BlockTakes.{end-some, block-some}
 use Rattle.places.specs.Begins.{Digit, Closes, Due}
 use Rattle.places.specs.Faults.{numberRows, Miscounted, too-few, too-many, FigureRow, Enters, SignFault, GoesOn, digit-behind, NoneYet, lastOf}
 use Rattle.places.proofs.DigitLists.{fewest-some, some-width, last-behind, last-digit}
@@ -25,7 +25,8 @@ use Rattle.places.proofs.Dues.{due-item, item-widths}
 use Rattle.places.proofs.Follows.{Holds, Entering, follows}
 use Rattle.places.proofs.Stems.{Figure, figures-all}
 use Rattle.places.proofs.Called.{by-letter-tab, by-both-tab, called}
-use Rattle.places.proofs.Marks.{mark-follows, no-second-end}
+use Rattle.places.proofs.Marks.{mark-follows}
+use Rattle.places.proofs.Empties.{no-second-end}
 use Rattle.places.proofs.FewFigures.{parts, few-digits, sign-shape, few-figures}
 
 -- ---- where an end could stand, none of the others does
@@ -36,10 +37,6 @@ starts (program {e = e} {r = r} end h) = (e ++ r, refl)
 blocks-some : {f : Format} {bs : List Block} {x : List ℕ} → Blocks f bs x → 0 < length bs → 0 < length x
 blocks-some Blocks.none l = absurd (omega arith)
 blocks-some (Blocks.more {r = r} {s = s} b h) l = omega (arith, block-some b, length-append r s)
-
-pub end-some : {e : List ℕ} → End e → 0 < length e
-end-some lf = zero-lt-suc 0
-end-some cr-lf = zero-lt-suc 1
 
 program-some : {f : Format} {bs : List Block} {x : List ℕ} → Program f bs x → 0 < length bs → 3 ≤ length x
 program-some (program {e = e} {r = r} end h) l = omega (arith, end-some end, blocks-some h l, length-append e r)
@@ -131,7 +128,7 @@ pub right-behind : {f : Format} → Facts f → {it : Item} {y : List ℕ} → D
     → (GoesOn (wayOf f) (lastOf (y ++ address (wayOf f) it)) c → ⊥) → ⊥
 right-behind facts due c d = right-behind-figure facts due c (λ t. inl d)
 
-fault-figure : {y : Way} {g : Sign} {c : ℕ} → SignFault y g c → y ≡ by-tab → FigureRow c
+pub fault-figure : {y : Way} {g : Sign} {c : ℕ} → SignFault y g c → y ≡ by-tab → FigureRow c
 fault-figure (SignFault.barred-sign h) e = inr h
 fault-figure {c = c} (SignFault.missing-sign n h) e = subst (λ v. Enters v c) e h
 

@@ -109,6 +109,11 @@ pub record Figured (z : Missing) (n a : ℕ) (u : List ℕ) (rest : List KeptRow
 restored-full : (z : Missing) (n : ℕ) (ds rest : List KeptRow) → z ≡ Nothing → restored z n (ranOf ds rest) ≡ worth 0 (chars ds)
 restored-full z n ds rest e = rw e
 
+-- nothing goes on with a row that is neither digit nor HT
+pub still : {y : Way} {l c : ℕ} → (Digit l → ⊥) → (l ≡ 9 → ⊥) → GoesOn y l c → ⊥
+still n t (digit-behind d e) = n d
+still n t (data-behind y h e) = t h
+
 -- nothing at the front goes on with the last of the rows u
 abbrev pub Firm : Way → List ℕ → List KeptRow → Type 0
 Firm y u rest = Next (λ c. GoesOn y (lastOf u) c → ⊥) rest

@@ -1,9 +1,9 @@
 -- What stands behind the address of an item that is due, or behind its tab, in a program's rows: its data. So spoilt digits begin nothing.
 use Prim.Native.Nat.{ℕ, _+_, _≤_, _<_}
-use native.Mathlib.Nat.{le-refl}
+use native.Mathlib.Nat.{le-refl, zero-lt-suc}
 use native.Mathlib.Omega.{arith}
 use mathlib.Core.Path.{_≡_, refl, sym, ap, _∙_, subst}
-use mathlib.Core.Bool.{Bool, true, false}
+use mathlib.Core.Bool.{Bool, true, false, false≢true}
 use mathlib.Core.List.{List, [], _∷_, _++_, append-assoc, map}
 use lib.Dec.{eqb}
 use lib.Ieee.Bits.{is-false}
@@ -26,7 +26,7 @@ use Rattle.words.specs.Data.{wordAt}
 use Rattle.parts.specs.Ends.{headAt}
 use Rattle.parts.specs.Items.{stepped, pastAddress}
 use Rattle.reading.specs.declared.Block.{Block}
-use Rattle.reading.specs.Relation.{Data, speed, address, Worded, word, tab, skipRows, sequenceRows, Blocks, Program, program, chars}
+use Rattle.reading.specs.Relation.{Data, speed, address, Worded, word, tab, startRows, Blocks, Program, program, chars}
 use Rattle.reading.specs.Parse.{wordsAt, blockAt}
 use Rattle.reading.specs.Answers.{programAt}
 use Rattle.reading.proofs.Outcomes.{chars-append}
@@ -34,6 +34,7 @@ use Rattle.reading.proofs.DigitRows.{digits-length}
 use Rattle.reading.proofs.RowsAhead.{heads, fronts-heads, behind-chars, is-digit}
 use Rattle.reading.proofs.WordTakes.{word-takes}
 use Rattle.reading.proofs.WordsTake.{neither, fails, fair-fails, tab-front, word-front, beginning, begins-heads, own-front, past-chars, step-takes}
+use Rattle.reading.proofs.BareStarts.{turns, opener, tab-turns, word-turns, turn-opens}
 use Rattle.reading.proofs.BlockTakes.{end-takes, start-takes, block-takes, block-some}
 use Rattle.reading.proofs.Complete.{rows-length, complete}
 use Rattle.reading.proofs.Sound.{word-rows}
@@ -42,7 +43,7 @@ use Rattle.places.specs.Faults.{SpeedDue, Spoilt}
 use Rattle.places.proofs.Steady.{Refuses, refuses-bind}
 use Rattle.places.proofs.Unread.{Unread, block-unread, behind-unread}
 use Rattle.places.proofs.SpeedDigits.{spoilt-some, spoilt-never}
-use Rattle.places.proofs.Dues.{due-item, item-widths, opened, opened-some, rowsOf, chars-of}
+use Rattle.places.proofs.Dues.{due-item, item-widths, rowsOf, chars-of}
 
 -- ---- the walk to an item that is due
 
@@ -55,6 +56,14 @@ reached-front p ht {y} {it = it} (out {j} {r = r} q) h z =
 reached-front p ht {y} {it = it} (here {j} {r = r} (word {ds = ds} q) k) h z =
     rw (append-assoc (tab y) (address y j ++ ds ++ r) (address y it ++ z), append-assoc (address y j ++ ds) r (address y it ++ z), append-assoc (address y j) ds (r ++ (address y it ++ z)))
     (word-front p ht y j (ds ++ (r ++ (address y it ++ z))) (neither (p (j .letter)) _ h .0))
+
+-- an item's turn begins there
+reached-turns : {y : Way} {its : List Item} {it : Item} {r : List ℕ} → Reached y its it r → (z : List ℕ) → heads (turns y its) (r ++ (address y it ++ z)) ≡ true
+reached-turns {y} (first {it} {its}) z = word-turns y it its z
+reached-turns {y} {it = it} (out {j} {its = its} {r} q) z = rw (append-assoc (tab y) r (address y it ++ z)) (tab-turns y j its (r ++ (address y it ++ z)) (reached-turns q z))
+reached-turns {y} {it = it} (here {j} {its = its} {r = r} (word {ds = ds} q) k) z =
+    rw (append-assoc (tab y) (address y j ++ ds ++ r) (address y it ++ z), append-assoc (address y j ++ ds) r (address y it ++ z), append-assoc (address y j) ds (r ++ (address y it ++ z)))
+    (word-turns y j its (ds ++ (r ++ (address y it ++ z))))
 
 -- the word of an item left out does not begin there
 absent : (y : Way) (j : Item) (its : List Item) → Fair (j ∷ its) → {it : Item} {r : List ℕ} → Reached y its it r → (z : List ℕ) → heads (beginning y j) (r ++ (address y it ++ z)) ≡ false
@@ -93,6 +102,10 @@ reached-through len y {it = it} (here {j} {its = its} {r = r} (word {ds = ds} p)
 
 -- ---- behind a program's rows
 
+some-row : (p : ℕ → Bool) (u : List ℕ) → heads p u ≡ true → 0 < length u
+some-row p [] h = absurd (false≢true h)
+some-row p (c ∷ u) h = zero-lt-suc _
+
 module _ (f : Format) (facts : Facts f) (len : ℕ) where
   blocks-through : {bs : List Block} {r : List ℕ} → Blocks f bs r → (z : List ℕ) → 0 < length z → (rs : List KeptRow) → chars rs ≡ r ++ z
       → (rest : List KeptRow) × (chars rest ≡ z) × (Refuses (blockAt len f rest) → Unread f len rs)
@@ -104,7 +117,7 @@ module _ (f : Format) (facts : Facts f) (len : ℕ) where
       let k = blocks-through q z some (t .1 .rest) (t .1 .leaves) in
       (k .0, k .1, λ nay. behind-unread f len rs (t .1 .rest) _ (t .1 .takes) less (k .2 nay))
 
-  program-through : {bs : List Block} {h : List ℕ} → Program f bs h → (z : List ℕ) → 0 < length z → (rs : List KeptRow) → chars rs ≡ h ++ z
+  pub program-through : {bs : List Block} {h : List ℕ} → Program f bs h → (z : List ℕ) → 0 < length z → (rs : List KeptRow) → chars rs ≡ h ++ z
       → (rest : List KeptRow) × (chars rest ≡ z) × (Refuses (blockAt len f rest) → Refuses (programAt len f rs))
   unfolding programAt headAt
   program-through (program {e = e} {r = r} end q) z some rs h =
@@ -118,14 +131,14 @@ module _ (f : Format) (facts : Facts f) (len : ℕ) where
   unfolding blockAt
   due-through {it} {x} h z o rs e =
       let y = wayOf f in
-      let s = skipRows (h .skip) ++ sequenceRows (f .sequence) (h .alignment) (h .number) in
+      let s = startRows (f .sequence) (h .start) in
       let t = h .passed ++ (address y it ++ z) in
       let all : chars rs ≡ h .ended ++ (s ++ t) =
       e ∙ ap (λ l. l ++ address y it ++ z) (h .rows) ∙ simp append-assoc in
-      let some : 0 < length (s ++ t) = opened-some {f = f} (opened (h .skip) (h .alignment) (h .small)) t in
-      let p = program-through (h .program) (s ++ t) some rs all in
+      let opens = turn-opens f t (reached-turns (h .reached) z) in
+      let p = program-through (h .program) (s ++ t) (omega (arith, length-append s t, some-row (opener f) t opens)) rs all in
       let apart = reached-front isDigit refl (h .reached) (fair-fails isDigit refl (facts .fair)) z in
-      let b = start-takes len (f .sequence) (h .skip) (h .alignment) (h .small) t apart (p .0) (p .1 ∙ append-assoc (skipRows (h .skip)) (sequenceRows (f .sequence) (h .alignment) (h .number)) t) in
+      let b = start-takes f facts len (h .starts) t apart (λ n. opens) (p .0) (p .1) in
       let w = reached-through len y (h .reached) (facts .fair) z o (b .rest) (b .leaves) in
       (w .0, w .1, w .2, λ nay. p .2 (rw (b .takes) (refuses-bind (wordsAt len y (itemsOf f) (b .rest)) _ (w .3 nay))))
 

@@ -30,6 +30,7 @@ pub mod Splits
 pub mod Marks
 pub mod Stems
 pub mod Called
+pub mod Empties
 pub mod FewFigures
 pub mod EndsAlone
 pub mod OneNumber

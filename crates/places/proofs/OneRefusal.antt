@@ -19,15 +19,16 @@ use Rattle.reading.specs.Relation.{digits, address, chars}
 use Rattle.words.specs.Figures.{frontPlace, digitNext, isFigure}
 use Rattle.reading.proofs.Outcomes.{chars-append}
 use Rattle.reading.proofs.DigitRows.{digits-length, digits-digit}
-use Rattle.places.specs.Begins.{Digit, Begins}
-use Rattle.places.specs.Faults.{Miscounted, too-few, too-many, lastOf, EndDue, Misfit, Cut, SpeedDue, Refusal}
+use Rattle.places.specs.Begins.{Digit, Begins, Empty}
+use Rattle.places.specs.Faults.{Miscounted, too-few, too-many, lastOf, EndDue, Misfit, Cut, SpeedDue, BehindCR, an-lf, another, nothing, Refusal}
 use Rattle.places.proofs.DigitLists.{last-behind, last-digit}
 use Rattle.places.proofs.Ahead.{address-begins}
 use Rattle.places.proofs.Dues.{due-item, item-widths, parted}
 use Rattle.places.proofs.Stems.{inWord, digit-figure}
+use Rattle.places.proofs.Empties.{inEmpty, empty-last, low-stops}
 use Rattle.places.proofs.Called.{called, mark-figure, address-size, called-same}
 use Rattle.rows.proofs.Every.{every-front, every-back}
-use Rattle.places.proofs.OneNumber.{Spot, spot, one-number}
+use Rattle.places.proofs.OneNumber.{Spot, spot, idle-cr, one-number}
 use Rattle.places.proofs.Splits.{Split, same, sooner, later, compare, nested, begun, cancel}
 use Rattle.places.proofs.Compared.{begins-front, behind-cr, inside-word, speed-miscount, cr-cr, cut-one}
 use Rattle.places.proofs.SpeedRuns.{Run, whole, few, many, out, not-next, run-stop, run-one, same-run}
@@ -60,6 +61,7 @@ module _ {f : Format} (facts : Facts f) (len : ℕ) (rs : List KeptRow) where
   data Look : ℕ → ℕ → Type 0 where
     row : {n : ℕ} (g a : List KeptRow) (r : KeptRow) → Point g a r → Misfit f n (chars g) (r .char) → Look n (r .place)
     cr : {n : ℕ} (b a : List KeptRow) (c r : KeptRow) → Point (b ++ (c ∷ [])) a r → c .char ≡ 13 → EndDue f n (chars b) → Look n (c .place)
+    empty : {n p : ℕ} (b a : List KeptRow) (c : KeptRow) → Point b a c → Empty f (chars b) → c .char ≡ 13 → BehindCR len c a n p → Look n p
     speed : {n p k : ℕ} {it : Item} {x : List ℕ} (b ds rest : List KeptRow) → Lost k it x b ds rest → Run len k (placeAfter x) ds rest n p → Look n p
     long : {n : ℕ} → Begins f (chars rs) → Cut f n (chars rs) → Look n len
 
@@ -77,6 +79,7 @@ module _ {f : Format} (facts : Facts f) (len : ℕ) (rs : List KeptRow) where
         bad = λ k. nay (subst (Begins f) (ap (λ l. l ++ (r .char ∷ [])) rows ∙ append-assoc (chars b) (13 ∷ []) (r .char ∷ [])) k);
       })
       is due
+  look (Refusal.empty-cr b a c q e is behind h nay) = empty b a c (record { split = q; good = h; bad = λ k. nay (subst (λ x. Begins f (chars b ++ (x ∷ []))) is k) }) e is behind
   look (Refusal.at-word {k = k} {it} c b w a r q due v small z apart h nay) =
       let s = parted (r ∷ w) (address (wayOf f) it) (digits k c) v in
       let n : length (s .right) ≡ k = sym (length-map (s .right) (λ d. d .char)) ∙ ap length (s .of-right) ∙ digits-length k c in
@@ -160,27 +163,59 @@ module _ {f : Format} (facts : Facts f) (len : ℕ) (rs : List KeptRow) where
       (omega (arith, o .most, length-map (q .0) (λ s. s .char), ap length (q .3) ∙ length-append (q .0) (r ∷ q .1)))
       (every-back Digit (chars (q .0)) (r .char ∷ chars (q .1)) each .0) (spot (subst (λ z. Misfit f n z (r .char)) e m))
 
+  cr-last : (h : List KeptRow) (c : KeptRow) → c .char ≡ 13 → lastOf (chars (h ++ (c ∷ []))) ≡ 13
+  cr-last h c is = ap lastOf (chars-append h (c ∷ [])) ∙ last-behind (chars h) (c .char ∷ []) (zero-lt-suc _) ∙ is
+
   cr-speed : {k : ℕ} {it : Item} {x : List ℕ} {a b ds rest : List KeptRow} {r : KeptRow} (h : List KeptRow) (c : KeptRow) → Point (h ++ (c ∷ [])) a r → c .char ≡ 13 → Lost k it x b ds rest → ⊥
   cr-speed {a = a} {b} {ds} {r = r} h c p is o = go (q .0) (q .1) (q .2) (q .3)
     where
       q : (u : List KeptRow) × (v : List KeptRow) × (h ++ (c ∷ []) ≡ b ++ u) × (ds ≡ u ++ (r ∷ v))
       q = inside p o
 
-      left : lastOf (chars (h ++ (c ∷ []))) ≡ 13
-      left = ap lastOf (chars-append h (c ∷ [])) ∙ last-behind (chars h) (c .char ∷ []) (zero-lt-suc _) ∙ is
-
       go : (u v : List KeptRow) → h ++ (c ∷ []) ≡ b ++ u → ds ≡ u ++ (r ∷ v) → ⊥
-      go [] v e d = subst inWord (sym (ap (λ l. lastOf (chars l)) (e ∙ append-nil b)) ∙ left) (lost-last o)
+      go [] v e d = subst inWord (sym (ap (λ l. lastOf (chars l)) (e ∙ append-nil b)) ∙ cr-last h c is) (lost-last o)
       go (y ∷ u) v e d =
           let each = every-front Digit (chars (y ∷ u)) (r .char ∷ chars v) (subst (Every Digit) (ap chars d ∙ chars-append (y ∷ u) (r ∷ v)) (o .all)) in
           let n = last-digit (chars (y ∷ u)) each (zero-lt-suc _) in
-          let z : 13 ≡ lastOf (chars (y ∷ u)) = sym left ∙ ap (λ l. lastOf (chars l)) e ∙ ap lastOf (chars-append b (y ∷ u)) ∙ last-behind (chars b) (chars (y ∷ u)) (zero-lt-suc _) in
+          let z : 13 ≡ lastOf (chars (y ∷ u)) = sym (cr-last h c is) ∙ ap (λ l. lastOf (chars l)) e ∙ ap lastOf (chars-append b (y ∷ u)) ∙ last-behind (chars b) (chars (y ∷ u)) (zero-lt-suc _) in
           omega (arith, n .0)
 
   row-cr : {n : ℕ} {g a d : List KeptRow} {r s : KeptRow} (h : List KeptRow) (c : KeptRow) → Point g a r → Misfit f n (chars g) (r .char) → Point (h ++ (c ∷ [])) d s → c .char ≡ 13 → ⊥
   row-cr {n} {g} {r = r} h c p m q is =
       let e : chars g ≡ chars h ++ (13 ∷ []) = ap chars (points p q .0) ∙ chars-append h (c ∷ []) ∙ ap (λ x. chars h ++ (x ∷ [])) is in
       behind-cr facts (chars h) (spot (subst (λ x. Misfit f n x (r .char)) e m))
+
+  -- ---- the CR of an empty block
+
+  row-empty : {n : ℕ} {g a b d : List KeptRow} {r c : KeptRow} → Point g a r → Misfit f n (chars g) (r .char) → Point b d c → Empty f (chars b) → c .char ≡ 13 → ⊥
+  row-empty {n} {g} {b = b} {r = r} {c} p m q e is =
+      let k = points p q in
+      let cr : r .char ≡ 13 = ap (λ s. s .char) (k .1) ∙ is in
+      idle-cr facts (record { block = subst (λ l. Empty f (chars l)) (sym (k .0)) e; firm = low-stops (omega arith) }) cr (spot m)
+
+  cr-empty : {a b d : List KeptRow} {r s : KeptRow} (h : List KeptRow) (c : KeptRow) → Point (h ++ (c ∷ [])) a r → c .char ≡ 13 → Point b d s → Empty f (chars b) → ⊥
+  cr-empty h c p is q e = subst inEmpty (cr-last h c is) (empty-last (subst (λ l. Empty f (chars l)) (sym (points p q .0)) e))
+
+  empty-speed : {k : ℕ} {it : Item} {x : List ℕ} {a b h ds rest : List KeptRow} {c : KeptRow} → Point h a c → c .char ≡ 13 → Lost k it x b ds rest → ⊥
+  empty-speed {ds = ds} {c = c} p is o =
+      let q = inside p o in
+      let each = subst (Every Digit) (ap chars (q .3) ∙ chars-append (q .0) (c ∷ q .1)) (o .all) in
+      let d = every-back Digit (chars (q .0)) (c .char ∷ chars (q .1)) each .0 in
+      omega (arith, d .0)
+
+  behind-one : {n m p q : ℕ} {a : List KeptRow} {c : KeptRow} → BehindCR len c a n p → BehindCR len c a m q → (n ≡ m) × (p ≡ q)
+  behind-one (an-lf e) (an-lf h) = (refl, refl)
+  behind-one (an-lf e) (another n) = absurd (n e)
+  behind-one (another n) (an-lf e) = absurd (n e)
+  behind-one (another n) (another h) = (refl, refl)
+  behind-one nothing nothing = (refl, refl)
+
+  empty-empty : {n m p q : ℕ} {b a h d : List KeptRow} {c e : KeptRow} → Point b a c → BehindCR len c a n p → Point h d e → BehindCR len e d m q → (n ≡ m) × (p ≡ q)
+  empty-empty {m = m} {q = k} {b} {a} {h} {d} {c} {e} p i q j =
+      let z = points p q in
+      let rest : (e ∷ d) ≡ (c ∷ a) = cancel h _ _ (sym (q .split) ∙ p .split ∙ ap (λ l. l ++ (c ∷ a)) (z .0)) in
+      let t : d ≡ a = cc in
+      behind-one i (subst (λ l. BehindCR len c l m k) t (subst (λ r. BehindCR len r d m k) (sym (z .1)) j))
 
   -- ---- two speeds
 
@@ -238,18 +273,27 @@ module _ {f : Format} (facts : Facts f) (len : ℕ) (rs : List KeptRow) where
       let e = points p q in
       (one-number facts i (subst (λ c. Misfit f m (chars g) (c .char)) (sym (e .1)) (subst (λ x. Misfit f m (chars x) (s .char)) (sym (e .0)) j)), ap (λ c. c .place) (e .1))
   look-one (row g a r p i) (cr h d c s q is due) = absurd (row-cr h c p i q is)
+  look-one (row g a r p i) (empty b d c q e is j) = absurd (row-empty p i q e is)
   look-one (row g a r p i) (speed b ds rest o t) = absurd (row-speed p i o)
   look-one (row g a r p i) (long h c) = absurd (point-all p h)
   look-one (cr h d c s q is due) (row g a r p i) = absurd (row-cr h c p i q is)
   look-one (cr h d c s q is due) (cr g a e r p so j) = cr-cr facts h g c e (points q p .0) due j
+  look-one (cr h d c s q is due) (empty b a e p i so j) = absurd (cr-empty h c q is p i)
   look-one (cr h d c s q is due) (speed b ds rest o t) = absurd (cr-speed h c q is o)
   look-one (cr h d c s q is due) (long k e) = absurd (point-all q k)
+  look-one (empty b d c q e is j) (row g a r p i) = absurd (row-empty p i q e is)
+  look-one (empty b a e p i so j) (cr h d c s q is due) = absurd (cr-empty h c q is p i)
+  look-one (empty b a c p e is i) (empty h d r q o so j) = empty-empty p i q j
+  look-one (empty h a c p e is i) (speed b ds rest o t) = absurd (empty-speed p is o)
+  look-one (empty h a c p e is i) (long k o) = absurd (point-all p k)
   look-one (speed b ds rest o t) (row g a r p i) = absurd (row-speed p i o)
   look-one (speed b ds rest o t) (cr h d c s q is due) = absurd (cr-speed h c q is o)
+  look-one (speed b ds rest o t) (empty h a c p e is i) = absurd (empty-speed p is o)
   look-one (speed b ds rest o t) (speed c es more i u) = speed-speed o t i u
   look-one (speed b ds rest o t) (long h e) = absurd (lost-all o h)
   look-one (long h c) (row g a r p i) = absurd (point-all p h)
   look-one (long h c) (cr g d e s q is due) = absurd (point-all q h)
+  look-one (long h c) (empty b a e p i is j) = absurd (point-all p h)
   look-one (long h c) (speed b ds rest o t) = absurd (lost-all o h)
   look-one (long h c) (long k e) = (cut-one c e, refl)
 
@@ -260,6 +304,7 @@ falls-short {f} facts len rs {n} a = go (look facts len rs a)
     go : {n p : ℕ} → Look facts len rs n p → (Begins f (chars rs) → ⊥) ⊎ Cut f n (chars rs)
     go (row g b r q m) = inl (point-all facts len rs q)
     go (cr h b c r q is due) = inl (point-all facts len rs q)
+    go (empty b a c q e is i) = inl (point-all facts len rs q)
     go (speed b ds rest o t) = inl (lost-all facts len rs o)
     go (long h c) = inr c
 

@@ -31,7 +31,7 @@ use Rattle.places.proofs.BlockStops.{EndStop, ended-goes, BlockStop, bl
 pub data HeadStop : ℕ → List ℕ → List ℕ → List ℕ → Type 0 where
   no-percent : {c : ℕ} → (c ≡ 37 → ⊥) → HeadStop 8 [] [] (c ∷ [])
   cut-percent : HeadStop 8 [] [] []
-  in-end : {n : ℕ} {b ds w : List ℕ} → EndStop (λ c. Unit {0}) Wanted.Head n b ds w → HeadStop n (37 ∷ b) ds w
+  in-end : {n : ℕ} {b ds w : List ℕ} → EndStop (λ c. Unit {0}) Wanted.Head false n b ds w → HeadStop n (37 ∷ b) ds w
 
 -- "%" and an end
 abbrev Headed : List ℕ → Type 0

@@ -1,11 +1,10 @@
 -- The theorem: of every tape that the fourth stage refuses, the number and the place say what `Refusal` says of the rows.
-use Prim.Native.Nat.{ℕ, _^_, _≤_, _<_}
+use Prim.Native.Nat.{ℕ, _^_, _<_}
 use mathlib.Core.Path.{_≡_, refl, sym, ap, _∙_, subst}
 use mathlib.Core.Bool.{false, false≢true}
-use mathlib.Core.List.{List, [], _∷_, _++_, append-assoc}
+use mathlib.Core.List.{List, [], _∷_, _++_, append-assoc, append-nil}
 use native.Mathlib.Omega.{arith}
 use lib.ListN.{length, length-map, length-replicate}
-use lib.Dec.{T}
 use Rattle.rows.specs.Answer.{refused}
 use Rattle.rows.specs.Kept.{KeptRow}
 use Rattle.rows.specs.Passes.{Every}
@@ -23,15 +22,16 @@ use Rattle.reading.proofs.DigitRows.{digits-length}
 use Rattle.reading.proofs.RowsAhead.{is-digit}
 use Rattle.reading.proofs.Complete.{complete}
 use Rattle.reading.proofs.Outcomes.{chars-append}
-use Rattle.places.specs.Begins.{Digit, Begins}
-use Rattle.places.specs.Faults.{EndDue, Misfit, SpeedDue, Spoilt, Refusal, at-cr, at-word, at-length, past-saving, cut-past-saving}
+use Rattle.places.specs.Begins.{Digit, Begins, Empty}
+use Rattle.places.specs.Faults.{EndDue, Misfit, SpeedDue, Spoilt, BehindCR, an-lf, another, nothing, Refusal, at-cr, at-word, at-length, past-saving, cut-past-saving}
 use Rattle.places.proofs.Steady.{Refuses, Held, at-row, at-end}
 use Rattle.places.proofs.DigitLists.{zeros-digit}
 use Rattle.places.proofs.ProgramStops.{ProgramStop, program-held}
 use Rattle.places.proofs.Ahead.{zeros-begin}
-use Rattle.places.proofs.Dues.{due-item, item-widths, rowsOf, chars-of}
+use Rattle.places.proofs.Dues.{due-item, item-widths, rowsOf, chars-of, parted}
 use Rattle.places.proofs.Follows.{spoilt-begins}
-use Rattle.places.proofs.Told.{Short, Told, misfit, no-lf-behind, code, short, spoilt, spoilt-short, short-cut, both-empty, program-told}
+use Rattle.places.proofs.Empties.{empty-cr}
+use Rattle.places.proofs.Told.{Short, before-lf, before-row, before-none, Told, misfit, no-lf-behind, code, short, spoilt, at-empty-cr, spoilt-short, short-cut, both-empty, program-told}
 
 -- ---- rows with given characters
 
@@ -59,6 +59,13 @@ one-row (s ∷ w) c e =
     let n : chars w ≡ [] = cc in
     (s, ap (λ l. s ∷ l) (no-rows w n), k)
 
+-- the last of some rows
+last-row : (b : List KeptRow) (x : List ℕ) (c : ℕ) → chars b ≡ x ++ (c ∷ []) → (l : List KeptRow) × (s : KeptRow) × (b ≡ l ++ (s ∷ [])) × (chars l ≡ x) × (s .char ≡ c)
+last-row b x c e =
+    let p = parted b x (c ∷ []) e in
+    let s = one-row (p .right) c (p .of-right) in
+    (p .left, s .0, p .split ∙ ap (λ l. p .left ++ l) (s .1), p .of-left, s .2)
+
 -- ---- digits past saving
 
 module _ (f : Format) (facts : Facts f) (b es : List KeptRow) (k : ℕ) (it : Item) (x : List ℕ) (e : chars b ≡ x ++ address (wayOf f) it) (due : SpeedDue f it k x) where
@@ -71,6 +78,13 @@ module _ (f : Format) (facts : Facts f) (b es : List KeptRow) (k : ℕ) (it : It
       let n = length-map es (λ s. s .char) in
       let few = s .fits in
       (zeros (length es), zeros-digit (length es), length-replicate (length es) 48, rw e (zeros-begin it (item-widths (facts .fair) (due-item (due .due))) x (due .due) (due .speed) (length es) (omega arith)))
+
+-- ---- refused at the CR of an empty block or behind it
+
+module _ (f : Format) (facts : Facts f) (len : ℕ) (rs b a : List KeptRow) (cr : KeptRow) (split : rs ≡ b ++ (cr ∷ a)) where
+  empty-refused : {n p : ℕ} (x : List ℕ) → chars b ≡ x → cr .char ≡ 13 → Empty f x → Begins f x → BehindCR len cr a n p → Refusal f len rs n p
+  empty-refused x e k h begins behind =
+      Refusal.empty-cr b a cr split (subst (Empty f) (sym e) h) k behind (subst (Begins f) (sym e) begins) (λ g. empty-cr f facts h (subst (λ y. Begins f (y ++ (13 ∷ []))) e g))
 
 -- ---- refused at a row
 
@@ -130,6 +144,20 @@ module _ (f : Format) (facts : Facts f) (len : ℕ) (rs b es w a : List KeptRow)
       let v : r .char ≡ c = cc in
       let l : chars w ≡ [] = cc in
       spoilt-refused k c it y (eb ∙ e) v l due (subst (Spoilt k) (sym ed) s) (rw (eb, ed) m)
+  row-refused (at-empty-cr {x = x} h begins before-lf) lone eb ed ev =
+      let c = last-row b x 13 eb in
+      let k : r .char ≡ 10 = cc in
+      let l : chars w ≡ [] = cc in
+      let whole : rs ≡ c .0 ++ (c .1 ∷ (r ∷ a)) =
+      split ∙ ap (λ d. b ++ (d ++ (r ∷ (w ++ a)))) (no-rows es ed) ∙ ap (λ v. b ++ (r ∷ (v ++ a))) (no-rows w l) ∙ ap (λ v. v ++ (r ∷ a)) (c .2) ∙ append-assoc (c .0) (c .1 ∷ []) (r ∷ a) in
+      empty-refused f facts len rs (c .0) (r ∷ a) (c .1) whole x (c .3) (c .4) h begins (an-lf k)
+  row-refused (at-empty-cr {x = x} h begins (before-row {c} n)) lone eb ed ev =
+      let k : r .char ≡ 13 = cc in
+      let l : chars w ≡ c ∷ [] = cc in
+      let s = one-row w c l in
+      let whole : rs ≡ b ++ (r ∷ (s .0 ∷ a)) = split ∙ ap (λ d. b ++ (d ++ (r ∷ (w ++ a)))) (no-rows es ed) ∙ ap (λ v. b ++ (r ∷ (v ++ a))) (s .1) in
+      empty-refused f facts len rs b (s .0 ∷ a) r whole x eb k h begins (another (λ e. n (sym (s .2) ∙ e)))
+  row-refused (at-empty-cr h begins before-none) lone eb ed ev = let z = ap length ev in absurd (omega arith)
   row-refused (spoilt-short e due s h few c) lone eb ed ev = let z = ap length ev in absurd (omega arith)
 
 -- ---- refused at the length
@@ -149,6 +177,12 @@ module _ (f : Format) (facts : Facts f) (len : ℕ) (rs b es : List KeptRow) (sp
       let is : y ≡ chars rs = e ∙ sym (all-rows ∙ rw (eb, ed)) in
       at-length (short-cut (subst (Short f n) is s) nay) (subst (Begins f) is begins)
   end-refused (spoilt e due s m) eb ed ev = let z = ap length ev in absurd (omega arith)
+  end-refused (at-empty-cr h begins before-lf) eb ed ev = let z = ap length ev in absurd (omega arith)
+  end-refused (at-empty-cr h begins (before-row n)) eb ed ev = let z = ap length ev in absurd (omega arith)
+  end-refused (at-empty-cr {x = x} h begins before-none) eb ed ev =
+      let c = last-row b x 13 eb in
+      let whole : rs ≡ c .0 ++ (c .1 ∷ []) = split ∙ ap (λ d. b ++ d) (no-rows es ed) ∙ append-nil b ∙ c .2 in
+      empty-refused f facts len rs (c .0) [] (c .1) whole x (c .3) (c .4) h begins nothing
   end-refused (spoilt-short {k} {it} {x = y} {ds = ds} e due s h few c) eb ed ev =
       let is : chars b ++ ds ≡ chars rs = sym (all-rows ∙ rw ed) in
       let n : length (chars es) ≡ length ds = ap length ed in

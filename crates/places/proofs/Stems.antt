@@ -14,7 +14,7 @@ use Rattle.shorthand.specs.Layout.{Sign}
 use Rattle.shorthand.specs.Edition.{letters, anyOf}
 use Rattle.shorthand.specs.Facts.{Facts}
 use Rattle.reading.specs.declared.Block.{Block}
-use Rattle.reading.specs.Relation.{Signed, End, lf, cr-lf, skipRows, sequenceRows, Blocked, block, Blocks, Program, program}
+use Rattle.reading.specs.Relation.{Signed, End, lf, cr-lf, skipRows, startRows, Blocked, block, Blocks, Program, program}
 use Rattle.words.specs.Figures.{isFigure}
 use Rattle.reading.proofs.ReadData.{either}
 use Rattle.reading.proofs.WordsTake.{fails}
@@ -56,7 +56,7 @@ end-lf lf = ([], refl)
 end-lf cr-lf = (13 ∷ [], refl)
 
 block-lf : {f : Format} {b : Block} {x : List ℕ} → Blocked f b x → InLF x
-block-lf {f} (block {n} {r = r} skip alignment small w end) = lf-behind (skipRows skip) (lf-behind (sequenceRows (f .sequence) alignment n) (lf-behind r (end-lf end)))
+block-lf {f} (block {s} {r = r} start some w end) = lf-behind (startRows (f .sequence) s) (lf-behind r (end-lf end))
 
 blocks-lf : {f : Format} {bs : List Block} {x : List ℕ} (a : List ℕ) → InLF a → Blocks f bs x → InLF (a ++ x)
 blocks-lf a h Blocks.none = subst InLF (sym (append-nil a)) h

@@ -178,6 +178,8 @@ misfit-range (Misfit.percent h) = (lit≤ tt, lit≤ tt)
 misfit-range (Misfit.end EndDue.of-head a b c) = (lit≤ tt, lit≤ tt)
 misfit-range (Misfit.end (EndDue.of-block h) a b c) = (lit≤ tt, lit≤ tt)
 misfit-range (Misfit.start k p h) = (lit≤ tt, lit≤ tt)
+misfit-range (Misfit.empty e) = (lit≤ tt, lit≤ tt)
+misfit-range (Misfit.tabbed e some a b c) = (lit≤ tt, lit≤ tt)
 misfit-range (Misfit.number k l p a h) = (lit≤ tt, lit≤ tt)
 misfit-range (Misfit.figures it x d g a h b) = (lit≤ tt, lit≤ tt)
 misfit-range (Misfit.sign it x d h) = (lit≤ tt, lit≤ tt)
@@ -253,6 +255,8 @@ module _ {e : ℕ} {s p t : List ℕ} {f : Format} (settled : Settled e s p f) (
       cr-alone b a cr r (due-number due) q is n
       (opens-before settled passes (b ++ (cr ∷ [])) a r q₂ (subst (Begins f) (sym rows) h))
       (shuts-with settled passes (b ++ (cr ∷ [])) a r q₂ (λ k. nay (subst (Begins f) more-rows k)))
+  placed (Refusal.empty-cr b a cr q m is behind h nay) =
+      TapePlace.empty-cr b a cr q is behind (opens-before settled passes b a cr q h) (shuts-with settled passes b a cr q (λ k. nay (subst (λ c. Begins f (chars b ++ (c ∷ []))) is k)))
   placed (at-word {k} {it} c b w a r q due v small z apart h nay) =
       let zero = zeros-begin it (item-widths (facts .fair) (due-item (due .due))) (chars b) (due .due) (due .speed) k (le-refl k) in
       let digit = digits-digit k c small in

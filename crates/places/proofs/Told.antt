@@ -1,33 +1,40 @@
 -- What a stop of the parsers says in the relation's words: why the rows do not fit, and that those before them begin a program's.
 use Prim.Native.Nat.{ℕ, _^_, _≤_, _<_}
-use mathlib.Core.Path.{_≡_, refl, sym, ap, subst}
+use mathlib.Core.Path.{_≡_, refl, sym, ap, _∙_, subst}
 use mathlib.Core.Logic.{inl, inr}
+use mathlib.Core.Bool.{Bool, true, false, false≢true}
 use mathlib.Core.List.{List, [], _∷_, _++_, append-nil, append-assoc}
-use native.Mathlib.Nat.{le-refl}
+use native.Mathlib.Nat.{le-refl, zero-lt-suc}
 use native.Mathlib.Omega.{arith}
 use lib.ListN.{length}
-use lib.Dec.{T, lit<}
+use lib.Dec.{lit<}
 use Rattle.rows.specs.Passes.{Every}
 use Rattle.rows.specs.Answer.{refused}
 use Rattle.speeds.specs.Meaning.{speedFor}
 use Rattle.shorthand.specs.declared.Item.{Item}
 use Rattle.shorthand.specs.declared.Format.{Format}
-use Rattle.shorthand.specs.Layout.{Way, by-letter, by-both, by-tab, wayOf, width, missingOf, fewest}
+use Rattle.shorthand.specs.Layout.{itemsOf, Way, by-letter, by-both, by-tab, wayOf, width, missingOf, fewest}
 use Rattle.shorthand.specs.Facts.{Widths, Facts}
+use Rattle.words.specs.declared.Word.{Word}
+use Rattle.words.specs.declared.Wanted.{Wanted}
+use Rattle.parts.specs.declared.Begun.{Begun}
+use Rattle.parts.specs.Starts.{unnumbered}
 use Rattle.reading.specs.declared.Block.{Block}
-use Rattle.reading.specs.Relation.{digits, address, End, lf, cr-lf, skipRows, Blocks, Program, program}
-use Rattle.places.specs.Begins.{Digit, Begins, Due}
+use Rattle.reading.specs.Record.{isEmpty}
+use Rattle.reading.specs.Relation.{digits, address, Words, End, lf, cr-lf, skipRows, counted, bare, Blocks, Program, program}
+use Rattle.places.specs.Begins.{Digit, Begins, Due, Empty}
 use Rattle.places.specs.Faults as faults
-use Rattle.places.specs.Faults.{Miscounted, too-few, too-many, EndDue, of-head, of-block, SignRow, Enters, GoesOn, digit-behind, data-behind, NoneYet, Misfit, Cut, in-head, SpeedDue, Spoilt}
+use Rattle.places.specs.Faults.{Miscounted, too-few, too-many, EndDue, of-head, of-block, SignRow, Enters, GoesOn, NoneYet, lastOf, Misfit, Cut, in-head, SpeedDue, Spoilt}
 use Rattle.places.proofs.DigitLists.{last-behind, some-width, fewest-most}
-use Rattle.places.proofs.Dues.{reached-item, item-widths, opened-some}
-use Rattle.places.proofs.FigureStops.{miscounted, cut}
+use Rattle.places.proofs.Dues.{SomeWords, reached-item, item-widths, Opened, opened}
+use Rattle.places.proofs.FigureStops.{still, miscounted, cut}
 use Rattle.places.proofs.SignStops.{fault, cut-sign, in-sign, in-figures}
 use Rattle.places.proofs.WordStops.{WordStop, in-data, thirteen}
 use Rattle.places.proofs.WordsStops.{in-word}
-use Rattle.places.proofs.BlockStops.{no-end, no-lf, cut-end, cut-lf, BlockStop, no-start, cut-start, in-number, in-words}
+use Rattle.places.proofs.BlockStops.{EndStop, no-end, no-lf, cut-end, cut-lf, empty-lf, empty-cr-lf, Halts, BlockStop, no-start, cut-start, in-number, in-words}
+use Rattle.places.proofs.Stems.{program-lf}
 use Rattle.places.proofs.ProgramStops.{HeadStop, no-percent, cut-percent, ProgramStop}
-use Rattle.places.proofs.Ahead.{closes-begins, head-begins, words-close, cr-begins, number-begins, start-begins, reached-due, Outlook, open-to, spoilt-for, outlook, address-begins, before-begins, figures-begin}
+use Rattle.places.proofs.Ahead.{closes-begins, head-begins, words-close, cr-begins, number-begins, start-begins, reached-due, Outlook, open-to, spoilt-for, outlook, address-begins, before-begins, figures-begin, empty-begins}
 
 -- ---- rows that end too soon
 
@@ -42,9 +49,16 @@ short-cut (block-short (c ∷ s) p) nay = faults.in-block (c ∷ s) p (omega ari
 
 -- ---- what is said of the rows b and the digits ds before the place, and of the rows that decide
 
+-- a CR behind the rows x of an empty block, by what follows it: 9 at an LF, 10 at the CR before another row, 14 where the tape ends
+pub data CRStop (x : List ℕ) : ℕ → List ℕ → List ℕ → Type 0 where
+  before-lf : CRStop x 9 (x ++ (13 ∷ [])) (10 ∷ [])
+  before-row : {c : ℕ} → (c ≡ 10 → ⊥) → CRStop x 10 x (13 ∷ c ∷ [])
+  before-none : CRStop x 14 (x ++ (13 ∷ [])) []
+
 pub data Told (f : Format) : ℕ → List ℕ → List ℕ → List ℕ → Type 0 where
   misfit : {n c : ℕ} {x b ds : List ℕ} → x ≡ b ++ ds → Misfit f n x c → Begins f x → Told f n b ds (c ∷ [])
   no-lf-behind : {n c : ℕ} {b : List ℕ} → EndDue f n b → (c ≡ 10 → ⊥) → Begins f (b ++ (13 ∷ [])) → Told f n b [] (13 ∷ c ∷ [])
+  at-empty-cr : {n : ℕ} {x b w : List ℕ} → Empty f x → Begins f x → CRStop x n b w → Told f n b [] w
   code : {k : ℕ} {it : Item} {b : List ℕ} (c : ℕ) → SpeedDue f it k b → c < 10 ^ k → speedFor k c ≡ refused 13 0 → Begins f b → Told f 13 b [] (address (wayOf f) it ++ digits k c)
   short : {n : ℕ} {x b ds : List ℕ} → x ≡ b ++ ds → Short f n x → Begins f x → Told f n b ds []
   spoilt : {k c : ℕ} {it : Item} {b x ds : List ℕ} → b ≡ x ++ address (wayOf f) it → SpeedDue f it k x → Spoilt k ds → Misfit f 11 (b ++ ds) c → Told f 11 b ds (c ∷ [])
@@ -79,16 +93,16 @@ module _ {f : Format} (it : Item) (w : Widths (it .kind)) (x : List ℕ) (due : 
   wide : fewest (missingOf (it .kind)) (width (it .kind)) ≤ width (it .kind)
   wide = fewest-most (missingOf (it .kind)) (width (it .kind)) (some-width (it .kind) w)
 
-  bare : x ++ own ≡ x ++ (own ++ []) ++ []
-  bare = simp append-nil
+  addressed : x ++ own ≡ x ++ (own ++ []) ++ []
+  addressed = simp append-nil
 
   -- without a sign the digits stand right behind the address
   unsigned : (s : List ℕ) → s ≡ [] → x ++ (own ++ (s ++ [])) ≡ x ++ own
   unsigned s n = rw (n, append-nil own)
 
   word-told : {n : ℕ} {b ds v : List ℕ} → WordStop (wayOf f) it n b ds v → Told f n (x ++ b) ds v
-  word-told (in-data (in-sign (fault h))) = misfit bare (faults.sign it x due h) (address-begins it w x due)
-  word-told (in-data (in-sign cut-sign)) = short bare (cuts own) (address-begins it w x due)
+  word-told (in-data (in-sign (fault h))) = misfit addressed (faults.sign it x due h) (address-begins it w x due)
+  word-told (in-data (in-sign cut-sign)) = short addressed (cuts own) (address-begins it w x due)
   word-told (in-data (in-figures {s = s} g (miscounted {ds} {c} all m d))) = go (outlook (it .kind) w g ds all (miscounted-most wide m))
     where
       fits : Misfit f 11 (x ++ own ++ (s ++ ds)) c
@@ -111,10 +125,52 @@ module _ {f : Format} (it : Item) (w : Widths (it .kind)) (x : List ℕ) (due : 
 
 -- ---- a block, the head, and all
 
+-- no digits, and nothing before them
+nothing : (x : List ℕ) → x ≡ x ++ [] ++ []
+nothing x = simp append-nil
+
 module _ {f : Format} (facts : Facts f) {bs : List Block} {h : List ℕ} (p : Program f bs h) where
   -- behind a program's rows a block is begun
   cut-behind : (x s : List ℕ) → h ++ s ≡ x → Short f 14 x
   cut-behind x s e = subst (Short f 14) e (block-short s p)
+
+  -- nothing goes on with a program's rows
+  firm-behind : {c : ℕ} (x : List ℕ) → (GoesOn (wayOf f) (lastOf x) c → ⊥) → GoesOn (wayOf f) (lastOf (h ++ x)) c → ⊥
+  firm-behind {c} [] n g =
+      let q = program-lf p in
+      still (λ d. omega arith) (λ e. omega arith) (subst (λ l. GoesOn (wayOf f) l c) (ap lastOf (append-nil h ∙ q .1) ∙ last-behind (q .0) (10 ∷ []) (zero-lt-suc 0)) g)
+  firm-behind {c} (d ∷ x) n g = n (subst (λ l. GoesOn (wayOf f) l c) (last-behind h (d ∷ x) (zero-lt-suc _)) g)
+
+  -- at the end of a block
+  end-told : {n : ℕ} {s : Begun} {b ds w u r : List ℕ} → Opened f s u → (ws : SomeWords (wayOf f) (itemsOf f) s r) → EndStop (Halts f s (ws .0) u r) Wanted.End false n b ds w
+      → Told f n (h ++ (u ++ r) ++ b) ds w
+  end-told {u = u} {r} o ws (no-end a b d) =
+      let k = words-close p o ws in
+      misfit (nothing (h ++ (u ++ r))) (faults.end (of-block k) a b (firm-behind (u ++ r) (d .firm))) (closes-begins (h ++ (u ++ r)) [] (h ++ (u ++ r)) k (sym (append-nil _)))
+  end-told {u = u} {r} o ws (no-lf a) = rw (append-nil (h ++ (u ++ r))) (no-lf-behind (of-block (words-close p o ws)) a (cr-begins p o ws))
+  end-told {u = u} {r} o ws cut-end = short (nothing _) (cut-behind _ (u ++ r) refl) (closes-begins (h ++ (u ++ r)) [] (h ++ (u ++ r)) (words-close p o ws) (sym (append-nil _)))
+  end-told {u = u} {r} o ws cut-lf = short (sym (append-nil _)) (cut-behind _ (u ++ r ++ (13 ∷ [])) (sym (append-assoc h (u ++ r) (13 ∷ [])))) (cr-begins p o ws)
+  end-told o ws (empty-lf e) = absurd (false≢true e)
+  end-told o ws (empty-cr-lf e) = absurd (false≢true e)
+
+  -- at the end of an empty one
+  module _ (skip : Bool) (allowed : f .unnumbered ≡ true) {r : List ℕ} (left : Words (wayOf f) (itemsOf f) [] r) where
+    abbrev emptied : Empty f (h ++ (skipRows skip ++ [] ++ r))
+    emptied = record { blocks = bs; ended = h; skip = skip; passed = r; program = p; allowed = allowed; left-out = left; rows = rw (append-nil (skipRows skip)) }
+
+    empty-told : {n : ℕ} {b ds w : List ℕ} → EndStop (Halts f (unnumbered skip) [] (skipRows skip ++ []) r) Wanted.End true n b ds w → Told f n (h ++ (skipRows skip ++ [] ++ r) ++ b) ds w
+    empty-told (no-end a b d) = misfit (nothing _) (faults.tabbed emptied (d .tabbed refl a b) a b (firm-behind (skipRows skip ++ [] ++ r) (d .firm))) (empty-begins facts emptied)
+    empty-told (no-lf a) = rw (append-nil (h ++ (skipRows skip ++ [] ++ r))) (at-empty-cr emptied (empty-begins facts emptied) (before-row a))
+    empty-told cut-end = short (nothing _) (cut-behind _ (skipRows skip ++ [] ++ r) refl) (empty-begins facts emptied)
+    empty-told cut-lf = at-empty-cr emptied (empty-begins facts emptied) before-none
+    empty-told (empty-lf e) = misfit (nothing _) (faults.empty emptied) (empty-begins facts emptied)
+    empty-told (empty-cr-lf e) = at-empty-cr emptied (empty-begins facts emptied) before-lf
+
+  close-told : {n : ℕ} {s : Begun} {ws : List Word} {b ds w u r : List ℕ} → Opened f s u → Words (wayOf f) (itemsOf f) ws r → EndStop (Halts f s ws u r) Wanted.End (isEmpty s ws) n b ds w
+      → Told f n (h ++ (u ++ r) ++ b) ds w
+  close-told {ws = []} (opened (bare skip allowed)) words q = empty-told skip allowed words q
+  close-told {ws = []} (opened (counted skip alignment small)) words q = end-told (opened (counted skip alignment small)) ([], refl, words) q
+  close-told {ws = v ∷ ws} o words q = end-told o (v ∷ ws, refl, words) q
 
   block-told : {n : ℕ} {b ds w : List ℕ} → BlockStop f n b ds w → Told f n (h ++ b) ds w
   block-told (no-start skip c) = misfit (sym (append-nil _)) (faults.start skip p c) (start-begins p skip)
@@ -125,35 +181,22 @@ module _ {f : Format} (facts : Facts f) {bs : List Block} {h : List ℕ} (p : Pr
   block-told (in-number skip alignment (cut {ds} all l)) =
       let e : h ++ faults.numberRows skip alignment ds ≡ h ++ faults.numberRows skip alignment [] ++ ds = simp append-assoc in
       short e (cut-behind _ (faults.numberRows skip alignment ds) refl) (number-begins p skip alignment ds all (omega arith))
-  block-told {n} (in-words {ds = ds} {w = w} {s = s} o (in-word {b = b} it r due q)) =
-      let e : h ++ (s ++ r) ++ b ≡ h ++ (s ++ (r ++ b)) = simp append-assoc in
+  block-told {n} (in-words {ds = ds} {w = w} {u = u} o (in-word {b = b} it r due q)) =
+      let e : h ++ (u ++ r) ++ b ≡ h ++ (u ++ (r ++ b)) = simp append-assoc in
       subst (λ y. Told f n y ds w) e
-      (word-told it (item-widths (facts .fair) (reached-item due)) (h ++ (s ++ r)) (reached-due p r it o due) (λ t. cut-behind _ (s ++ r ++ t) (sym (append-assoc h (s ++ r) t))) q)
-  block-told (BlockStop.in-end {s = s} {r = r} o ws (no-end {c = l} a b d)) =
-      let e : h ++ (s ++ r) ≡ h ++ (s ++ (r ++ [])) ++ [] = simp append-nil in
-      let c = words-close p o ws in
-      misfit e (faults.end (of-block c) a b (λ k. d (subst (λ last. GoesOn (wayOf f) last l) (last-behind h (s ++ r) (opened-some o r)) k))) (closes-begins (h ++ (s ++ r)) [] (h ++ (s ++ r)) c (sym (append-nil _)))
-  block-told (BlockStop.in-end {s = s} {r = r} o ws (no-lf {c} a)) =
-      let e : h ++ (s ++ r) ≡ h ++ (s ++ (r ++ [])) = simp append-nil in
-      subst (λ y. Told f 10 y [] (13 ∷ c ∷ [])) e (no-lf-behind (of-block (words-close p o ws)) a (cr-begins p o ws))
-  block-told (BlockStop.in-end {s = s} {r = r} o ws cut-end) =
-      let e : h ++ (s ++ r) ≡ h ++ (s ++ (r ++ [])) ++ [] = simp append-nil in
-      short e (cut-behind _ (s ++ r) refl) (closes-begins (h ++ (s ++ r)) [] (h ++ (s ++ r)) (words-close p o ws) (sym (append-nil _)))
-  block-told (BlockStop.in-end {s = s} {r = r} o ws cut-lf) =
-      let e : h ++ (s ++ r) ++ (13 ∷ []) ≡ h ++ (s ++ (r ++ (13 ∷ []))) ++ [] = simp (append-nil, append-assoc) in
-      short e (cut-behind _ (s ++ r ++ (13 ∷ [])) (sym (append-assoc h (s ++ r) (13 ∷ [])))) (cr-begins p o ws)
-
--- nothing goes on with "%"
-headed : {y : Way} {c : ℕ} → GoesOn y 37 c → ⊥
-headed (digit-behind l d) = omega arith
-headed (data-behind t l d) = omega arith
+      (word-told it (item-widths (facts .fair) (reached-item due)) (h ++ (u ++ r)) (reached-due p r it o due) (λ t. cut-behind _ (u ++ r ++ t) (sym (append-assoc h (u ++ r) t))) q)
+  block-told {n} (BlockStop.in-end {b = b} {ds} {w} {u} {r} o words q) =
+      let e : h ++ (u ++ r) ++ b ≡ h ++ (u ++ (r ++ b)) = simp append-assoc in
+      subst (λ y. Told f n y ds w) e (close-told o words q)
 
 head-told : {f : Format} {n : ℕ} {b ds w : List ℕ} → HeadStop n b ds w → Told f n b ds w
 head-told (no-percent c) = misfit refl (faults.percent c) ([], 37 ∷ 10 ∷ [], program lf Blocks.none)
 head-told cut-percent = short refl (head-short (37 ∷ 10 ∷ []) lf refl (lit< tt)) ([], 37 ∷ 10 ∷ [], program lf Blocks.none)
-head-told (HeadStop.in-end (no-end a b d)) = misfit refl (faults.end of-head a b headed) head-begins
+head-told (HeadStop.in-end (no-end a b d)) = misfit refl (faults.end of-head a b (still (λ d. omega arith) (λ e. omega arith))) head-begins
 head-told (HeadStop.in-end (no-lf a)) = no-lf-behind of-head a ([], 10 ∷ [], program cr-lf Blocks.none)
 head-told (HeadStop.in-end cut-end) = short refl (head-short (10 ∷ []) lf refl (lit< tt)) head-begins
+head-told (HeadStop.in-end (empty-lf e)) = absurd (false≢true e)
+head-told (HeadStop.in-end (empty-cr-lf e)) = absurd (false≢true e)
 head-told (HeadStop.in-end cut-lf) = short refl (head-short (10 ∷ []) cr-lf refl (lit< tt)) ([], 10 ∷ [], program cr-lf Blocks.none)
 
 pub program-told : {f : Format} → Facts f → {n : ℕ} {b ds w : List ℕ} → ProgramStop f n b ds w → Told f n b ds w

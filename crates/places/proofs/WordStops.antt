@@ -6,7 +6,6 @@ use mathlib.Core.Bool.{Bool, true, false, _||_, cond, false≢true}
 use mathlib.Core.List.{List, [], _∷_, _++_, append-assoc}
 use native.Mathlib.Omega.{arith}
 use lib.ListN.{length, length-append, length-map}
-use lib.Dec.{T}
 use borrow.Author.Tests.{eqb-true}
 use Rattle.rows.specs.Answer.{Answer, taken, refused, _>>=_}
 use Rattle.rows.specs.Kept.{KeptRow}
@@ -64,7 +63,7 @@ word-is len it a l =
 
 -- ---- what was given stands as a word's data
 
-full-digits : (j m : ℕ) (u : List ℕ) {rest : List KeptRow} → Figured Nothing j m u rest → (m < 10 ^ j) × (u ≡ digits j m)
+pub full-digits : (j m : ℕ) (u : List ℕ) {rest : List KeptRow} → Figured Nothing j m u rest → (m < 10 ^ j) × (u ≡ digits j m)
 full-digits j m u h =
     let c = coded j u (h .all) (omega (arith, h .least, h .most)) in
     let e : m ≡ c .0 = h .value refl ∙ ap (worth 0) (c .2) ∙ digits-worth j (c .0) 0 (c .1) ∙ omega arith in
@@ -143,7 +142,7 @@ pub data WordStop (y : Way) (it : Item) : ℕ → List ℕ → List ℕ → List
   in-data : {n : ℕ} {b ds w : List ℕ} → DataStop y (it .kind) n b ds w → WordStop y it n (address y it ++ b) ds w
   thirteen : {j : ℕ} (c : ℕ) → it .kind ≡ Kind.Speed j → c < 10 ^ j → speedFor j c ≡ refused 13 0 → WordStop y it 13 [] [] (address y it ++ digits j c)
 
-refuses-wrong : (A : Type 0) (len : ℕ) (w : Wanted) (l : List KeptRow) → Refuses (wrong {A = A} len w l)
+pub refuses-wrong : (A : Type 0) (len : ℕ) (w : Wanted) (l : List KeptRow) → Refuses (wrong {A = A} len w l)
 refuses-wrong A len w [] = tt
 refuses-wrong A len w (r ∷ l) = tt
 

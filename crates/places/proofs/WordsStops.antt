@@ -6,6 +6,7 @@ use mathlib.Core.Bool.{Bool, true, false, cond, false≢true}
 use mathlib.Core.List.{List, [], _∷_, _++_, append-nil, append-assoc}
 use native.Mathlib.Nat.{zero-lt-suc}
 use native.Mathlib.Omega.{arith}
+use lib.ListN.{length}
 use Rattle.rows.specs.Answer.{Answer, _>>=_}
 use Rattle.rows.specs.Kept.{KeptRow}
 use Rattle.shorthand.specs.declared.Item.{Item}
@@ -15,7 +16,9 @@ use Rattle.shorthand.specs.Facts.{Fair, none, more}
 use Rattle.words.specs.declared.Word.{Word}
 use Rattle.reading.specs.Relation.{tab, Words, done, here, chars}
 use Rattle.words.specs.Figures.{Behind, taking, behind, frontPlace, isDigit, isFigure, figureNext}
-use Rattle.parts.specs.Items.{steps, stepped, begins, pastAddress, stops, out, at}
+use Rattle.parts.specs.declared.Begun.{Begun}
+use Rattle.parts.specs.Items.{steps, stepped, begins, pastAddress, stops, out, at, anyTurn}
+use Rattle.reading.specs.Record.{isEmpty}
 use Rattle.reading.specs.Parse.{consWord, resumed, wordsAt}
 use Rattle.reading.proofs.RowsAhead.{is-digit}
 use Rattle.reading.proofs.WordsTake.{fails}
@@ -23,7 +26,7 @@ use Rattle.places.specs.Begins.{Reached, first}
 use Rattle.places.specs.Faults.{Enters, GoesOn, digit-behind, data-behind, lastOf}
 use Rattle.places.proofs.Steady.{Like, Goes, took, goes-as, goes-after, goes-if, goes-map, goes-bind}
 use Rattle.places.proofs.DigitLists.{last-behind}
-use Rattle.places.proofs.Dues.{Some, SomeWords}
+use Rattle.places.proofs.Dues.{Some}
 use Rattle.places.proofs.FigureStops.{fronts-like, figure-like, Firm}
 use Rattle.places.proofs.WordStops.{Passed, pass-none, pass-row, wordHere, WordStop, word-goes}
 
@@ -82,9 +85,28 @@ firm-tab by-tab c x rs e f = firm-ht by-tab x (behind rs) (λ q. e)
 
 -- ---- all words
 
--- some words of the items; and where nothing goes on with what stands before them, nothing does with what stands before the rest
-abbrev pub WordsTaken : Way → List Item → List KeptRow → List Word → List ℕ → List KeptRow → Type 0
-WordsTaken y its rs ws u rest = SomeWords y its u × ((x : List ℕ) → Firm y x rs → Firm y (x ++ u) rest)
+-- where no tab stands, no item's turn begins
+no-tab : (y : Way) (its : List Item) (rs : List KeptRow) → steps y rs ≡ false → anyTurn y its rs ≡ false
+no-tab y [] rs e = refl
+no-tab by-letter (it ∷ its) rs e = absurd (false≢true (sym e))
+no-tab by-both (it ∷ its) rs e = rw e (no-tab by-both its rs e)
+no-tab by-tab (it ∷ its) rs e = rw e (no-tab by-tab its rs e)
+
+-- nor does one where the first item's word does not, and no row is taken for the others
+no-turn : (y : Way) (it : Item) (its : List Item) (rs : List KeptRow) (u : List ℕ) → begins y (it .letter) (stepped y rs) ≡ false → (u ≡ [] → anyTurn y its (stepped y rs) ≡ false) → tab y ++ u ≡ []
+    → anyTurn y (it ∷ its) rs ≡ false
+no-turn by-letter it its rs u e h n = rw e (h n)
+no-turn by-both it its rs u e h n = let z = ap length n in absurd (omega arith)
+no-turn by-tab it its rs u e h n = let z = ap length n in absurd (omega arith)
+
+-- words of the items, none where none was taken; where nothing goes on with what stands before them, nothing does with what stands before the rest;
+-- and where there is neither word nor row, no item's turn begins
+pub record WordsTaken (y : Way) (its : List Item) (rs : List KeptRow) (ws : List Word) (u : List ℕ) (rest : List KeptRow) : Type 0 where
+  pub words : List Word
+  pub stand : Words y its words u
+  pub alike : (s : Begun) → isEmpty s words ≡ isEmpty s ws
+  pub firm : (x : List ℕ) → Firm y x rs → Firm y (x ++ u) rest
+  pub turnless : (s : Begun) → isEmpty s ws ≡ true → u ≡ [] → anyTurn y its rs ≡ false
 
 -- an item that is reached, and those after it
 abbrev reached : ℕ → Way → Item → List Item → List KeptRow → Answer (Behind (List Word))
@@ -106,7 +128,7 @@ words-are len y it its l = go (steps y l) (begins y (it .letter) (stepped y l))
 pub words-go : (len : ℕ) (y : Way) {its : List Item} → Fair its → (rs : List KeptRow)
     → Goes (wordsAt len y its) len (WordsTaken y its rs) (WordsStop y its) rs (wordsAt len y its rs)
 unfolding wordsAt
-words-go len y none rs = took [] refl (([], done), λ x f. rw (append-nil x) f) (λ l h. refl)
+words-go len y none rs = took [] refl (record { words = []; stand = done; alike = λ s. refl; firm = λ x f. rw (append-nil x) f; turnless = λ s e n. refl }) (λ l h. refl)
 words-go len y (more {it} {its} known widths once fair) rs =
     goes-as rs (words-are len y it its)
     (goes-if (steps y) (steps-like y) rs
@@ -118,7 +140,21 @@ words-go len y (more {it} {its} known widths once fair) rs =
     goes-bind (goes-map (λ a u l k. k) (λ n. later-here n (chars s) (h .0)) (words-go len y fair rest)) λ ws u rest₂ e k.
     took [] refl
     (rw (append-nil (chars u))
-    ((h .0 .0 ∷ k .0 .0, here (h .0 .1) (k .0 .1)), λ x f. subst (λ l. Firm y l rest₂) (append-assoc (x ++ tab y) (chars s) (chars u) ∙ append-assoc x (tab y) (chars s ++ chars u)) (k .1 (x ++ tab y ++ chars s) (h .1 (x ++ tab y)))))
+    (record {
+      words = h .0 .0 ∷ k .words;
+      stand = here (h .0 .1) (k .stand);
+      alike = λ s. refl;
+      firm = λ x f. subst (λ l. Firm y l rest₂) (append-assoc (x ++ tab y) (chars s) (chars u) ∙ append-assoc x (tab y) (chars s ++ chars u)) (k .firm (x ++ tab y ++ chars s) (h .1 (x ++ tab y)));
+      turnless = λ s e n. absurd (false≢true e);
+    }))
     (λ l e. refl))
-    (λ f. goes-map (λ ws u l h. ((h .0 .0, Words.out (h .0 .1)), λ x g. subst (λ v. Firm y v l) (append-assoc x (tab y) u) (h .1 (x ++ tab y) (firm-tab y (it .letter) x rs f g)))) (λ n. later-out n) (words-go len y fair (stepped y rs))))))
-    (λ e. took [] refl (([], done), λ x f. rw (append-nil x) f) (λ l h. refl)))
+    (λ f. goes-map
+    (λ ws u l h. record {
+      words = h .words;
+      stand = Words.out (h .stand);
+      alike = h .alike;
+      firm = λ x g. subst (λ v. Firm y v l) (append-assoc x (tab y) u) (h .firm (x ++ tab y) (firm-tab y (it .letter) x rs f g));
+      turnless = λ s e n. no-turn y it its rs u f (h .turnless s e) n;
+    })
+    (λ n. later-out n) (words-go len y fair (stepped y rs))))))
+    (λ e. took [] refl (record { words = []; stand = done; alike = λ s. refl; firm = λ x f. rw (append-nil x) f; turnless = λ s z n. no-tab y (it ∷ its) rs e }) (λ l h. refl)))

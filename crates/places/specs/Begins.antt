@@ -1,15 +1,16 @@
--- Rows that begin the rows of some program, and what could stand behind them (document 01, "Four stages").
+-- Rows that begin the rows of some program, and what could stand behind them (documents 01, "Four stages", and 02, 5/12).
 -- The limit of 1,000,000 rows is left out: it is the first stage's, and a tape may be refused so near to it that only rows past it would make a program.
-use Prim.Native.Nat.{ℕ, _^_, _≤_, _<_}
+use Prim.Native.Nat.{ℕ, _≤_}
 use mathlib.Core.Path.{_≡_}
-use mathlib.Core.Bool.{Bool}
+use mathlib.Core.Bool.{Bool, true}
 use mathlib.Core.List.{List, [], _∷_, _++_}
 use Rattle.shorthand.specs.declared.Item.{Item}
 use Rattle.shorthand.specs.declared.Format.{Format}
 use Rattle.shorthand.specs.Layout.{itemsOf, Way, wayOf}
 use Rattle.words.specs.declared.Word.{Word}
+use Rattle.parts.specs.declared.Begun.{Begun}
 use Rattle.reading.specs.declared.Block.{Block}
-use Rattle.reading.specs.Relation.{Worded, tab, End, skipRows, sequenceRows, Program}
+use Rattle.reading.specs.Relation.{Worded, tab, Words, End, skipRows, startRows, Start, Program}
 
 abbrev pub Digit : ℕ → Type 0
 Digit c = (48 ≤ c) × (c ≤ 57)
@@ -32,11 +33,20 @@ pub data Reached (y : Way) : List Item → Item → List ℕ → Type 0 where
 pub record Due (f : Format) (it : Item) (x : List ℕ) : Type 0 where
   pub blocks : List Block
   pub ended : List ℕ
-  pub skip : Bool
-  pub alignment : Bool
-  pub number : ℕ
+  pub start : Begun
   pub passed : List ℕ
   pub program : Program f blocks ended
-  pub small : number < 10 ^ f .sequence
+  pub starts : Start f start
   pub reached : Reached (wayOf f) (itemsOf f) it passed
-  pub rows : x ≡ ended ++ (skipRows skip ++ sequenceRows (f .sequence) alignment number ++ passed)
+  pub rows : x ≡ ended ++ (startRows (f .sequence) start ++ passed)
+
+-- a block with neither number nor word so far: behind a program's rows "/" or not, and the tabs of items left out
+pub record Empty (f : Format) (x : List ℕ) : Type 0 where
+  pub blocks : List Block
+  pub ended : List ℕ
+  pub skip : Bool
+  pub passed : List ℕ
+  pub program : Program f blocks ended
+  pub allowed : f .unnumbered ≡ true
+  pub left-out : Words (wayOf f) (itemsOf f) [] passed
+  pub rows : x ≡ ended ++ (skipRows skip ++ passed)

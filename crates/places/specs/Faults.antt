@@ -1,4 +1,4 @@
--- What a refusal of the fourth stage says, by its number and place, of the rows (document 01, "Refusal numbers" and its paragraph on order).
+-- What a refusal of the fourth stage says, by its number and place, of the rows (documents 01, "Refusal numbers" and its paragraph on order, and 02, 5/12).
 use Prim.Native.Nat.{ℕ, _^_, _≤_, _<_}
 use mathlib.Core.Path.{_≡_}
 use mathlib.Core.Logic.{_⊎_}
@@ -13,11 +13,11 @@ use Rattle.speeds.specs.Meaning.{speedFor}
 use Rattle.shorthand.specs.declared.Kind.{Kind}
 use Rattle.shorthand.specs.declared.Item.{Item}
 use Rattle.shorthand.specs.declared.Format.{Format}
-use Rattle.shorthand.specs.Layout.{Way, by-letter, by-both, by-tab, wayOf, width, missingOf, fewest, Sign, barred, required, signOf}
+use Rattle.shorthand.specs.Layout.{itemsOf, Way, by-letter, by-both, by-tab, wayOf, width, missingOf, fewest, Sign, barred, required, signOf}
 use Rattle.profile.specs.Relation.{Settled}
 use Rattle.reading.specs.declared.Block.{Block}
 use Rattle.reading.specs.Relation.{digits, Signed, address, End, skipRows, Program, chars}
-use Rattle.places.specs.Begins.{Digit, Begins, Closes, Due}
+use Rattle.places.specs.Begins.{Digit, Begins, Closes, Due, Empty}
 
 -- ---- one row that does not fit
 
@@ -25,9 +25,19 @@ use Rattle.places.specs.Begins.{Digit, Begins, Closes, Due}
 abbrev pub numberRows : Bool → Bool → List ℕ → List ℕ
 numberRows skip alignment ds = skipRows skip ++ (cond alignment 58 78 ∷ ds)
 
--- none of the characters that a block may begin with; behind "/" neither N nor ":"
-abbrev pub NoStart : Bool → ℕ → Type 0
-NoStart skip c = (c ≡ 78 → ⊥) × (c ≡ 58 → ⊥) × (c ≡ 47 → skip ≡ true)
+-- with what an item's turn begins: its HT, or without tabs its letter
+abbrev pub Turn : Way → Item → ℕ → Type 0
+Turn by-letter it c = c ≡ it .letter
+Turn by-both it c = c ≡ 9
+Turn by-tab it c = c ≡ 9
+
+-- neither an item's turn nor a CR, which an end begins with
+abbrev pub NoTurn : Format → ℕ → Type 0
+NoTurn f c = Every (λ it. Turn (wayOf f) it c → ⊥) (itemsOf f) × (c ≡ 13 → ⊥)
+
+-- none of the characters that a block may begin with: "/" but behind another, N and ":", and where there need be no number an item's turn
+abbrev pub NoStart : Format → Bool → ℕ → Type 0
+NoStart f skip c = (c ≡ 78 → ⊥) × (c ≡ 58 → ⊥) × (c ≡ 47 → skip ≡ true) × (f .unnumbered ≡ true → NoTurn f c)
 
 -- too few digits and another row, or as many as may stand and one more
 pub data Miscounted (least most : ℕ) (ds : List ℕ) (c : ℕ) : Type 0 where
@@ -78,7 +88,9 @@ lastOf (c ∷ (d ∷ x)) = lastOf (d ∷ x)
 pub data Misfit (f : Format) : ℕ → List ℕ → ℕ → Type 0 where
   percent : {c : ℕ} → (c ≡ 37 → ⊥) → Misfit f 8 [] c
   end : {n c : ℕ} {x : List ℕ} → EndDue f n x → (c ≡ 10 → ⊥) → (c ≡ 13 → ⊥) → (GoesOn (wayOf f) (lastOf x) c → ⊥) → Misfit f n x c
-  start : {c : ℕ} {bs : List Block} {h : List ℕ} (skip : Bool) → Program f bs h → NoStart skip c → Misfit f 9 (h ++ skipRows skip) c
+  start : {c : ℕ} {bs : List Block} {h : List ℕ} (skip : Bool) → Program f bs h → NoStart f skip c → Misfit f 9 (h ++ skipRows skip) c
+  empty : {x : List ℕ} → Empty f x → Misfit f 9 x 10
+  tabbed : {c : ℕ} {x : List ℕ} (e : Empty f x) → 0 < length (e .passed) → (c ≡ 10 → ⊥) → (c ≡ 13 → ⊥) → (GoesOn (wayOf f) (lastOf x) c → ⊥) → Misfit f 10 x c
   number : {c : ℕ} {bs : List Block} {h ds : List ℕ} (skip alignment : Bool) → Program f bs h → Every Digit ds → Miscounted (f .sequence) (f .sequence) ds c
       → Misfit f 9 (h ++ numberRows skip alignment ds) c
   figures : {c m : ℕ} {z : ℤ} {s ds : List ℕ} (it : Item) (x : List ℕ) → Due f it x → Signed m (signOf (it .kind)) z s → Every Digit ds
@@ -105,6 +117,14 @@ pub record Spoilt (k : ℕ) (ds : List ℕ) : Type 0 where
   pub fits : length ds ≤ k
   pub lost : (c : ℕ) (more : List ℕ) → c < 10 ^ k → ds ++ more ≡ digits k c → speedFor k c ≡ refused 13 0
 
+-- ---- an end of a block with neither number nor word
+
+-- by what stands behind its CR: LF, and 9 is there; another row, and 10 is at the CR; nothing, and the tape ends inside a block
+pub data BehindCR (len : ℕ) (cr : KeptRow) : List KeptRow → ℕ → ℕ → Type 0 where
+  an-lf : {r : KeptRow} {a : List KeptRow} → r .char ≡ 10 → BehindCR len cr (r ∷ a) 9 (r .place)
+  another : {r : KeptRow} {a : List KeptRow} → (r .char ≡ 10 → ⊥) → BehindCR len cr (r ∷ a) 10 (cr .place)
+  nothing : BehindCR len cr [] 14 len
+
 -- ---- the refusals
 
 pub data Refusal (f : Format) (len : ℕ) (rs : List KeptRow) : ℕ → ℕ → Type 0 where
@@ -114,6 +134,9 @@ pub data Refusal (f : Format) (len : ℕ) (rs : List KeptRow) : ℕ → ℕ → 
   -- 8, 10 at a CR's own row: with it the rows begin a program's, and with the row behind it no more
   at-cr : {n : ℕ} (b a : List KeptRow) (cr r : KeptRow) → rs ≡ b ++ (cr ∷ (r ∷ a)) → EndDue f n (chars b) → cr .char ≡ 13 → (r .char ≡ 10 → ⊥)
       → Begins f (chars b ++ (13 ∷ [])) → (Begins f (chars b ++ (13 ∷ (r .char ∷ []))) → ⊥) → Refusal f len rs n (cr .place)
+  -- 9, 10 and 14 at a CR of an empty block or behind it: the rows before the CR begin a program's, and with it no more
+  empty-cr : {n p : ℕ} (b a : List KeptRow) (cr : KeptRow) → rs ≡ b ++ (cr ∷ a) → Empty f (chars b) → cr .char ≡ 13 → BehindCR len cr a n p
+      → Begins f (chars b) → (Begins f (chars b ++ (13 ∷ [])) → ⊥) → Refusal f len rs n p
   -- 13 at the word's first row, its address or without one its first digit: the rows before it begin a program's, and up to its last digit no more; a further digit would be 11
   at-word : {k : ℕ} {it : Item} (c : ℕ) (b w a : List KeptRow) (r : KeptRow) → rs ≡ b ++ (r ∷ (w ++ a)) → SpeedDue f it k (chars b) → chars (r ∷ w) ≡ address (wayOf f) it ++ digits k c
       → c < 10 ^ k → speedFor k c ≡ refused 13 0 → ((d : KeptRow) (l : List KeptRow) → a ≡ d ∷ l → Digit (d .char) → ⊥) → Begins f (chars b) → (Begins f (chars b ++ chars (r ∷ w)) → ⊥)

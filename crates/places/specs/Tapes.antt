@@ -17,7 +17,7 @@ use Rattle.reading.specs.declared.Block.{Block}
 use Rattle.reading.specs.Relation.{Program, chars}
 use Rattle.punching.specs.Rows.{rowOf}
 use Rattle.places.specs.Begins.{Digit}
-use Rattle.places.specs.Faults.{lastOf, Spoilt}
+use Rattle.places.specs.Faults.{lastOf, Spoilt, BehindCR}
 
 -- t is a tape of the program bs under the edition e, the shorthand s and the profile p, but for the limit of rows: within it, it is one (`TapeOf`)
 pub record LongTape (e : ℕ) (s p : List ℕ) (bs : List Block) (t : List ℕ) : Type 0 where
@@ -53,6 +53,9 @@ pub data TapePlace (e : ℕ) (s p t : List ℕ) : ℕ → ℕ → Type 0 where
   -- 8 and 10 at a CR: the next kept row is the one that cannot stand there
   cr-alone : {n : ℕ} (b a : List KeptRow) (cr r : KeptRow) → (n ≡ 8) ⊎ (n ≡ 10) → kept t ≡ b ++ (cr ∷ (r ∷ a)) → cr .char ≡ 13 → (r .char ≡ 10 → ⊥)
       → Opens e s p (take (r .place) t) → Shuts e s p (take (suc (r .place)) t) → TapePlace e s p t n (cr .place)
+  -- 9, 10 and 14 at a CR of a block with neither number nor word, or behind it: the rows before the CR could, and with it no more
+  empty-cr : {n k : ℕ} (b a : List KeptRow) (cr : KeptRow) → kept t ≡ b ++ (cr ∷ a) → cr .char ≡ 13 → BehindCR (length t) cr a n k
+      → Opens e s p (take (cr .place) t) → Shuts e s p (take (suc (cr .place)) t) → TapePlace e s p t n k
   -- 13 at the word's first row: no digit stands behind its digits ds; other digits, as many, could stand behind the same address, and these no more
   unsaid : (b w a : List KeptRow) (r : KeptRow) (m ds : List ℕ) → kept t ≡ b ++ (r ∷ (w ++ a)) → chars (r ∷ w) ≡ m ++ ds → Address (lastOf (chars b)) m → Every Digit ds
       → ((d : KeptRow) (v : List KeptRow) → a ≡ d ∷ v → Digit (d .char) → ⊥) → ((o : List ℕ) × Every Digit o × (length o ≡ length ds) × Opens e s p (instead t r (m ++ o)))
