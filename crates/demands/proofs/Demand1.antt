@@ -1,10 +1,10 @@
 -- Demand 1: everything gets an answer, and what can't be taken is refused by a number and a place of the table.
 use Prim.Native.Nat.{ℕ, _≤_}
 use native.Mathlib.Omega.{arith}
-use mathlib.Core.Path.{_≡_, refl}
+use mathlib.Core.Path.{_≡_, refl, sym}
 use mathlib.Core.Logic.{inl, inr, ⊎-elim, _↔_}
-use mathlib.Core.Bool.{Bool, true, false, _||_}
-use mathlib.Core.List.{List}
+use mathlib.Core.Bool.{Bool, true, false, _&&_, _||_, not, false≢true}
+use mathlib.Core.List.{List, [], _∷_}
 use lib.Dec.{T, eqb, eqb→eq, leb, ltb}
 use lib.ListN.{length}
 use borrow.Author.Tests.{leb-false, ltb-false}
@@ -27,6 +27,8 @@ use Rattle.profile.specs.Answers.{agreed}
 use Rattle.profile.specs.Relation.{Settled, Unsettled}
 use Rattle.profile.proofs.Settling.{settled-exactly, unsettled-exactly, settled-facts}
 use Rattle.reading.specs.declared.Block.{Block}
+use Rattle.words.specs.declared.Word.{Word}
+use Rattle.reading.specs.Record.{startOf, isEmpty, wordsOf}
 use Rattle.reading.specs.Parse.{Entry}
 use Rattle.reading.specs.Answers.{nth, programAt, read, readUnder, entryNumbered, counted, blockNumbered, rowsNumbered}
 use Rattle.punching.specs.Answers.{headPunched, blockFor, blockPunched, after}
@@ -34,7 +36,7 @@ use Rattle.punching.proofs.Records.{Fault, WordRefusal}
 use Rattle.punching.proofs.Refusals.{Barred, refused-only}
 use Rattle.places.proofs.RefusedRows.{refused-rows}
 use Rattle.places.proofs.Exactly.{refusal-read}
-use Rattle.demands.specs.Tables.{rows, program, Reading, Fetching, unread, past, Punching, Heading, Speaking, Coding}
+use Rattle.demands.specs.Tables.{rows, program, Reading, Fetching, unread, past, Needed, by-format, by-alignment, no-word, Punching, Heading, Speaking, Coding}
 
 -- an answer, whatever was handed over: something taken, or a refusal of the table
 abbrev pub Answered : {A : Type 0} → (ℕ → ℕ → Type 0) → Answer A → Type 0
@@ -88,9 +90,19 @@ word-numbers n h = by (eqb n 16) (eqb n 17) (eqb n 18) (eqb→eq n 16) (eqb→eq
     by false false true p q r h = let e = r tt in (omega arith, omega arith)
     by false false false p q r h = absurd h
 
+needed : {f : Format} {b : Block} → b .numbered ≡ false → (f .unnumbered && not (b .alignment) && not (isEmpty (startOf b) (wordsOf b))) ≡ false → Needed f b
+needed {f} {b} n h = by (f .unnumbered) refl (b .alignment) refl (wordsOf b) refl h
+  where
+    by : (x : Bool) → f .unnumbered ≡ x → (y : Bool) → b .alignment ≡ y → (ws : List Word) → wordsOf b ≡ ws → (x && not y && not (isEmpty (startOf b) ws)) ≡ false → Needed f b
+    by false p y q ws r h = by-format p
+    by true p true q ws r h = by-alignment q
+    by true p false q [] r h = no-word r
+    by true p false q (w ∷ ws) r h = absurd (false≢true (sym h))
+
 of-barred : {e : ℕ} {f : Format} {s p : List ℕ} (b : Block) (buffer : List ℕ) → Settled e s p f → {n k : ℕ} → Barred f b buffer n k → Punching e s p b buffer n k
 of-barred b buffer q (inl (Fault.crowded h)) = Punching.crowded h
-of-barred b buffer q (inl (Fault.unnumbered c h)) = Punching.unnumbered q h
+of-barred b buffer q (inl (Fault.too-large c n h)) = Punching.too-large q n h
+of-barred b buffer q (inl (Fault.missing c n h)) = Punching.missing q n (needed n h)
 of-barred b buffer q (inl (Fault.at-word {n = n} c w i h)) = let k = word-numbers n w in Punching.word (k .0) (k .1) i h
 of-barred b buffer q (inr h) = rw (h .0, h .1) (Punching.full q (rw (h .1) at (h .2)))
 

@@ -1,13 +1,15 @@
--- The table of refusals as relations: each number with its place and what calls for it (document 01, "Refusal numbers").
+-- The table of refusals as relations: each number with its place and what calls for it (documents 01, "Refusal numbers", and 02, 5/12).
 use Prim.Native.Nat.{ℕ, _^_, _≤_, _<_}
 use mathlib.Core.Path.{_≡_}
-use mathlib.Core.List.{List}
+use mathlib.Core.Bool.{true, false}
+use mathlib.Core.List.{List, []}
 use lib.ListN.{length}
 use Rattle.rows.specs.Answer.{taken}
 use Rattle.rows.specs.Faults.{RowRefusal}
 use Rattle.shorthand.specs.declared.Format.{Format}
 use Rattle.profile.specs.Relation.{Settled, Unsettled}
 use Rattle.reading.specs.declared.Block.{Block}
+use Rattle.reading.specs.Record.{wordsOf}
 use Rattle.reading.specs.Answers.{counted}
 use Rattle.punching.specs.Rows.{rowsOf}
 use Rattle.places.specs.Faults.{RefusalOf}
@@ -27,11 +29,18 @@ pub data Fetching (e : ℕ) (s p t : List ℕ) (n : ℕ) : ℕ → ℕ → Type 
   unread : {m k : ℕ} → Reading e s p t m k → Fetching e s p t n m k
   past : {c : ℕ} → counted e s p t ≡ taken c → c ≤ n → Fetching e s p t n 15 c
 
+-- a number may not be missing: the Format asks for one, or the block is for alignment, or it has no word
+pub data Needed (f : Format) (b : Block) : Type 0 where
+  by-format : f .unnumbered ≡ false → Needed f b
+  by-alignment : b .alignment ≡ true → Needed f b
+  no-word : wordsOf b ≡ [] → Needed f b
+
 -- 1 to 3, 22 and 23, and 16 to 19 of a record that is punched into a buffer
 pub data Punching (e : ℕ) (s p : List ℕ) (b : Block) (buffer : List ℕ) : ℕ → ℕ → Type 0 where
   settling : {n k : ℕ} → Unsettled e s p n k → Punching e s p b buffer n k
   crowded : 22 < b .count → Punching e s p b buffer 16 23
-  unnumbered : {f : Format} → Settled e s p f → 10 ^ f .sequence ≤ b .sequence → Punching e s p b buffer 17 0
+  too-large : {f : Format} → Settled e s p f → b .numbered ≡ true → 10 ^ f .sequence ≤ b .sequence → Punching e s p b buffer 17 0
+  missing : {f : Format} → Settled e s p f → b .numbered ≡ false → Needed f b → Punching e s p b buffer 16 0
   word : {n k : ℕ} → 16 ≤ n → n ≤ 18 → 1 ≤ k → k ≤ b .count → Punching e s p b buffer n k
   full : {f : Format} → Settled e s p f → length buffer < length (rowsOf f b) → Punching e s p b buffer 19 (length (rowsOf f b))
 
