@@ -1,5 +1,6 @@
 // A record as it is asked and as it is written.
 use crate::answers::put;
+use crate::answers::put_all;
 use crate::answers::put_decimal;
 use crate::answers::put_number;
 use crate::asked::behind_first;
@@ -70,6 +71,14 @@ fn with_words(block: Block, text: &[u8]) -> Block {
     next
 }
 
+// What stands behind a "-", where it stands.
+fn past_dash(text: &[u8]) -> &[u8] {
+    if first_of(text) == b'-' {
+        return behind_first(text);
+    }
+    text
+}
+
 pub fn record_of(text: &[u8]) -> Block {
     let alignment = rest(text);
     let sequence = rest(alignment);
@@ -77,7 +86,8 @@ pub fn record_of(text: &[u8]) -> Block {
     let mut block = reading::records::empty_block();
     block.skip = first_of(text) == b'/';
     block.alignment = first_of(alignment) == b':';
-    block.sequence = number(sequence);
+    block.numbered = first_of(sequence) != b'-';
+    block.sequence = number(past_dash(sequence));
     block.count = number(count) as usize;
     with_words(block, rest(count))
 }
@@ -165,12 +175,24 @@ fn put_either(out: &mut [u8], start: usize, first: bool, a: u8, b: u8) -> usize 
     put(out, at, b)
 }
 
+// A number, or "-" where there is none, and behind it what its field holds.
+fn put_sequence(out: &mut [u8], start: usize, numbered: bool, sequence: u64) -> usize {
+    if numbered {
+        return put_number(out, start, sequence);
+    }
+    let at = put_all(out, start, b" -");
+    if sequence == 0 {
+        return at;
+    }
+    put_decimal(out, at, sequence)
+}
+
 pub fn put_record(out: &mut [u8], start: usize, block: Block) -> usize {
     let skip = block.skip;
     let alignment = block.alignment;
     let next = put_either(out, start, skip, b'/', b'-');
     let sequence = put_either(out, next, alignment, b':', b'N');
-    let count = put_number(out, sequence, block.sequence);
+    let count = put_sequence(out, sequence, block.numbered, block.sequence);
     let words = put_number(out, count, block.count as u64);
     put_words(out, words, block)
 }

@@ -85,11 +85,20 @@ fn put_dots(out: &mut [u8], at: usize, dots: bool, addresses: bool) -> usize {
     put_all(out, at, b" tabs")
 }
 
+// "-" where a block may have no number.
+fn put_unnumbered(out: &mut [u8], at: usize, unnumbered: bool) -> usize {
+    if unnumbered {
+        return put(out, at, b'-');
+    }
+    at
+}
+
 fn put_parsed(out: &mut [u8], at: usize, parsed: Parsed) -> usize {
     let outcome = parsed.outcome;
     let format = parsed.format;
     let sequence = put_checked(out, at, outcome);
-    let dots = put_number(out, sequence, format.sequence as u64);
+    let bare = put_number(out, sequence, format.sequence as u64);
+    let dots = put_unnumbered(out, bare, format.unnumbered);
     let count = put_dots(out, dots, format.dots, format.addresses);
     let items = put_number(out, count, format.count as u64);
     put_items(out, items, format)
