@@ -285,6 +285,19 @@ static void test_counts(const struct desk *desk) {
     expect_count(desk, 2539, "N3.E2*", "%\n", 2, 2, 0);
     expect_count(desk, 1057, "N3.D2*", "%\n", 2, 2, 0);
 
+    /* blocks without number, which only 2539 has, and with neither number nor word, which none has */
+    expect_count(desk, 2539, "N3X+042*", "%\nX5\nN007X6\n/X7\n", 0, 0, 3);
+    expect_count(desk, 2539, "N3X+042*", "%\n\n", 9, 2, 0);
+    expect_count(desk, 2539, "N3X+042*", "%\n/\n", 9, 3, 0);
+    expect_count(desk, 2539, "N3X+042*", "%\n\r\n", 9, 3, 0);
+    expect_count(desk, 2539, "N3X+042*", "%\n\rX5\n", 10, 2, 0);
+    expect_count(desk, 2539, "N3X+042*", "%\nX5\n\r", 14, 6, 0);
+    expect_count(desk, 2539, "N3X+042*", "%\n:X5\n", 9, 3, 0);
+    expect_count(desk, 2539, "N3.X+042*", "%\n\tX5\n", 0, 0, 1);
+    expect_count(desk, 2539, "N3.X+042*", "%\nX5\n", 9, 2, 0);
+    expect_count(desk, 2539, "N3.X+042*", "%\n\t\n", 9, 3, 0);
+    expect_count(desk, 1057, "N3.X+42*", "%\n\tX+000005\n", 9, 2, 0);
+
     static const uint8_t odd[] = {165, 10, 37};
     static const uint8_t unknown[] = {165, 10, 33};
     struct counted asked = {1057, text_slice(format), nothing, {odd, 3}};
@@ -313,6 +326,9 @@ static void test_profiles(const struct desk *desk) {
     expect_under(desk, 2539, "N3.F3*", "LTM000A", "%\nN006\t605\n", 13, 7, 0);
     expect_under(desk, 2539, format, "LTM110A", "%\nN007\t01\t", 14, 10, 0);
     expect_under(desk, 2539, format, "", "%\nN008\t01\n", 10, 7, 0);
+    expect_under(desk, 2539, format, "LTM110A", "%\n\t01\n/\t\t5\n", 0, 0, 2);
+    expect_under(desk, 2539, format, "LTM110A", "%\n5\n", 9, 2, 0);
+    expect_under(desk, 2539, format, "LTM110A", "%\n\t\t\n", 9, 4, 0);
 
     /* before the tape, and after edition and shorthand */
     expect_under(desk, 2539, format, "LTM110", "", 22, 6, 0);

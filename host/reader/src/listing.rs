@@ -31,8 +31,9 @@ pub fn text(digits: u32, blocks: &[Block]) -> String {
 
 fn line(text: &mut String, digits: usize, block: &Block) {
     let letter = if block.opening.alignment { ':' } else { 'N' };
+    let number = if block.opening.numbered { format!("{:0digits$}", block.opening.sequence) } else { "-".into() };
     let skip = if block.opening.skip { '/' } else { '-' };
-    let _ = write!(text, "{letter} {:0digits$} {skip}", block.opening.sequence);
+    let _ = write!(text, "{letter} {number} {skip}");
     for &(letter, value) in &block.words {
         let _ = write!(text, " {}{value}", letter as char);
     }
@@ -101,12 +102,30 @@ mod tests {
         assert_eq!(listing(&input("1057 N3.F2.S2*\n", "")), "refused 3 2\n");
     }
 
+    #[test]
+    fn blocks_without_number() {
+        let list = |header, text| listing(&input(header, text));
+        let plain = |text| list("2539 N3X+042*\n", text);
+        assert_eq!(plain("%\nX5\nN007X6\n/X7\n"), "N - - X5\nN 007 - X6\nN - / X7\nblocks 3\n");
+        assert_eq!(plain("%\nN000\n:000X5\n"), "N 000 -\n: 000 - X5\nblocks 2\n");
+        assert_eq!(plain("%\n\n"), "refused 9 2\n");
+        assert_eq!(plain("%\n/\n"), "refused 9 3\n");
+        assert_eq!(plain("%\n:X5\n"), "refused 9 3\n");
+        let tabs = |text| list("2539 N3.X+042*\n", text);
+        assert_eq!(tabs("%\n\tX5\n"), "N - - X5\nblocks 1\n");
+        assert_eq!(tabs("%\nX5\n"), "refused 9 2\n");
+        assert_eq!(tabs("%\n\t\n"), "refused 9 3\n");
+        assert_eq!(list("1057 N3.X+42*\n", "%\n\tX+000005\n"), "refused 9 2\n");
+        let without_addresses = super::listing(&input("2539 N3.G2.X+042*\n", "%\n\t\t-5\n"), b"LTM110A");
+        assert_eq!(without_addresses, "N - - X-5\nblocks 1\n");
+    }
+
     /// The samples beside this package, each under the profile beside it.
     #[test]
     fn the_samples() {
         let folder = std::path::Path::new(env!("CARGO_MANIFEST_DIR")).join("../sample");
         let read = |name: &str| std::fs::read(folder.join(name)).unwrap();
-        for (name, profile) in [("tape", ""), ("feeds", ""), ("tabs", "tabs.profile"), ("preferred", "")] {
+        for (name, profile) in [("tape", ""), ("feeds", ""), ("tabs", "tabs.profile"), ("preferred", ""), ("unnumbered", "")] {
             let profile = if profile.is_empty() { Vec::new() } else { read(profile) };
             let listed = super::listing(&read(name), profile.trim_ascii_end());
             assert_eq!(listed.as_bytes(), read(&format!("{name}.listing")), "{name}");

@@ -15,7 +15,7 @@ pub type Word = (u8, Value);
 /// What stands in a place that holds no word.
 pub const CLEARED: Word = (0, Value::Plain(0));
 
-/// A block as it is handed in. The punch doesn't look at places past the count.
+/// A block as it is handed in. The punch doesn't look at places past the count, nor for a number where there is none.
 #[derive(Clone, Debug, PartialEq, Eq)]
 pub struct Record {
     /// how it begins
@@ -58,13 +58,17 @@ fn put(buffer: &mut [u8], rows: &[u8]) -> Result<u64, Refusal> {
 fn block(format: &Format, record: &Record) -> Result<Vec<u8>, Refusal> {
     let count = usize::try_from(record.count).unwrap_or(usize::MAX);
     let words = record.places.get(..count).ok_or(Refusal::new(16, PLACES + 1))?;
-    let Opening { skip, alignment, sequence } = record.opening;
+    let Opening { skip, alignment, numbered, sequence } = record.opening;
     let mut text = Vec::new();
     if skip {
         text.push(b'/');
     }
-    text.push(if alignment { b':' } else { b'N' });
-    digits(&mut text, format.sequence, sequence).ok_or(Refusal::new(17, 0))?;
+    if numbered {
+        text.push(if alignment { b':' } else { b'N' });
+        digits(&mut text, format.sequence, sequence).ok_or(Refusal::new(17, 0))?;
+    } else if alignment || words.is_empty() || !format.unnumbered {
+        return Err(Refusal::new(16, 0));
+    }
     let mut due = format.items.iter();
     for (at, &(letter, value)) in words.iter().enumerate() {
         let refused = |number| Refusal::new(number, at + 1);
@@ -120,7 +124,12 @@ mod tests {
     const PLAIN: &str = "N3.G2.X+42.F3.M2*";
 
     fn record(sequence: u64, words: &[Word]) -> Record {
-        let opening = Opening { skip: false, alignment: false, sequence };
+        Record::from(&Block { opening: Opening::numbered(sequence), words: words.to_vec() })
+    }
+
+    /// Without a number, and with rubbish in its field.
+    fn unnumbered(words: &[Word]) -> Record {
+        let opening = Opening { sequence: u64::MAX, ..Opening::BARE };
         Record::from(&Block { opening, words: words.to_vec() })
     }
 
@@ -194,7 +203,7 @@ mod tests {
         let format = shorthand::parse(2539, text.as_bytes()).unwrap();
         let most = 999_999_999_999_999_999;
         let words: Vec<Word> = format.items.iter().map(|item| (item.letter, greatest(item, most))).collect();
-        let block = Block { opening: Opening { skip: true, alignment: true, sequence: 999_999_999 }, words };
+        let block = Block { opening: Opening { skip: true, alignment: true, ..Opening::numbered(999_999_999) }, words };
         let mut rows = vec![0; 500];
         let count = punch_block(&format, &Record::from(&block), &mut rows).unwrap() as usize;
         let tape = [&[punched(b'%'), punched(LF)], &rows[..count]].concat();
@@ -248,6 +257,57 @@ mod tests {
         assert_eq!(one_word("N3X+42*", b'X', Value::Dimension(i64::MIN)), Err((17, 1)));
         assert_eq!(one_word("N3X+99*", b'X', Value::Dimension(i64::MAX)), Err((17, 1)));
         assert_eq!(one_word("N3X42*", b'X', Value::Dimension(-1)), Err((17, 1)));
+    }
+
+    #[test]
+    fn records_without_number() {
+        let (g, x) = ((b'G', Value::Plain(1)), (b'X', Value::Dimension(5)));
+        let mut handed = unnumbered(&[x]);
+        assert_eq!(answer(2539, "N3G2X+042*", &handed), Ok("X+000005\n".into()));
+        assert_eq!(answer(2539, "N9.G2.X+042*", &handed), Ok("\t\tX+000005\n".into()));
+        assert_eq!(judged(&Specification::new(2539, "N3.G2.X+042*", "LTM110A"), &handed), Ok("\t\t+000005\n".into()));
+        // the field kept for the number is not looked at
+        for sequence in [0, 7, 999, 1_000] {
+            handed.opening.sequence = sequence;
+            assert_eq!(answer(2539, "N3G2X+042*", &handed), Ok("X+000005\n".into()));
+        }
+        handed.opening.skip = true;
+        assert_eq!(answer(2539, "N3X+042*", &handed), Ok("/X+000005\n".into()));
+        assert_eq!(answer(2539, "N3.G2.X+042*", &handed), Ok("/\t\tX+000005\n".into()));
+        assert_eq!(answer(2539, "N3.G2.X+042*", &unnumbered(&[g, x])), Ok("\tG01\tX+000005\n".into()));
+    }
+
+    /// 16 at 0 in the sequence's turn: behind the count, and before the words and the room.
+    #[test]
+    fn records_that_lack_their_number() {
+        let (g, x) = ((b'G', Value::Plain(1)), (b'X', Value::Dimension(5)));
+        let mut neither = unnumbered(&[]);
+        // nor does it help what stands past the count
+        neither.places[0] = g;
+        let mut alignment = unnumbered(&[g]);
+        alignment.opening.alignment = true;
+        for text in ["N3G2*", "N3.G2*", "N3*"] {
+            assert_eq!(answer(2539, text, &neither), Err((16, 0)));
+            assert_eq!(answer(2539, text, &alignment), Err((16, 0)));
+        }
+        for record in [&neither, &alignment, &unnumbered(&[g]), &unnumbered(&[x]), &unnumbered(&[(b'Z', Value::Plain(1))])] {
+            assert_eq!(answer(1057, "N3.G2*", record), Err((16, 0)));
+            let mut many = record.clone();
+            many.count = 23;
+            assert_eq!(answer(1057, "N3.G2*", &many), Err((16, 23)));
+            assert_eq!(answer(2539, "N3.G2*", &many), Err((16, 23)));
+        }
+        // its words are judged where the number may be missing
+        assert_eq!(answer(2539, "N3G2X+042*", &unnumbered(&[x, g])), Err((16, 2)));
+        assert_eq!(answer(2539, "N3G2*", &unnumbered(&[(b'G', Value::Plain(100))])), Err((17, 1)));
+        assert_eq!(answer(2539, "N3F3*", &unnumbered(&[(b'F', rate(999))])), Err((18, 1)));
+        alignment.places[0] = (b'Z', Value::Plain(1));
+        assert_eq!(answer(2539, "N3G2*", &alignment), Err((16, 0)));
+        let format = shorthand::parse(2539, b"N3G2*").unwrap();
+        assert_eq!(punch_block(&format, &neither, &mut []), Err(Refusal::new(16, 0)));
+        assert_eq!(punch_block(&format, &unnumbered(&[g]), &mut [0; 3]), Err(Refusal::new(19, 4)));
+        // with its number a block without words is sound
+        assert_eq!(answer(2539, "N3G2*", &record(0, &[])), Ok("N000\n".into()));
     }
 
     #[test]

@@ -13,8 +13,20 @@ pub struct Opening {
     pub skip: bool,
     /// ":" stands for N
     pub alignment: bool,
-    /// its sequence number
+    /// it has a sequence number
+    pub numbered: bool,
+    /// that number; without one, 0 after reading
     pub sequence: u64,
+}
+
+impl Opening {
+    /// That of a block with neither "/" nor number.
+    pub const BARE: Opening = Opening { skip: false, alignment: false, numbered: false, sequence: 0 };
+
+    /// N and that number.
+    pub fn numbered(sequence: u64) -> Opening {
+        Opening { numbered: true, sequence, ..Opening::BARE }
+    }
 }
 
 /// The value of a word.
@@ -229,6 +241,19 @@ impl<'t> Reader<'t> {
     }
 
     fn block<V: Visitor>(&mut self, format: &Format, visitor: &mut V) -> Result<(), Refusal> {
+        let opening = self.opening(format)?;
+        visitor.block(opening);
+        let worded = match format.layout {
+            Layout::Addresses => self.words(format, visitor)?,
+            Layout::Both => self.tabbed_words(format, visitor)?,
+            Layout::Tabs => self.words_without_addresses(format, visitor)?,
+        };
+        self.end(opening.numbered || worded, visitor)
+    }
+
+    /// "/" or not, and the sequence word or none.
+    #[inline]
+    fn opening(&mut self, format: &Format) -> Result<Opening, Refusal> {
         let skip = self.here() == Some(b'/');
         if skip {
             self.step();
@@ -236,59 +261,71 @@ impl<'t> Reader<'t> {
         let alignment = match self.here() {
             Some(b'N') => false,
             Some(b':') => true,
+            _ if self.stands_without_number(format) => return Ok(Opening { skip, ..Opening::BARE }),
             _ => return Err(self.wrong(9)),
         };
         self.step();
         let (sequence, _) = self.digits(format.sequence, format.sequence, 9)?;
-        visitor.block(Opening { skip, alignment, sequence });
-        match format.layout {
-            Layout::Addresses => self.words(format, visitor)?,
-            Layout::Both => self.tabbed_words(format, visitor)?,
-            Layout::Tabs => self.words_without_addresses(format, visitor)?,
-        }
-        self.end(visitor)
+        Ok(Opening { skip, alignment, numbered: true, sequence })
     }
 
-    /// Each tab steps to the next item; its word follows, or nothing.
-    fn tabbed_words<V: Visitor>(&mut self, format: &Format, visitor: &mut V) -> Result<(), Refusal> {
+    /// Whether a block without number stands here: its first tab or word, or its end at once, which is judged as an end. A
+    /// shorthand without items has neither tab nor word.
+    fn stands_without_number(&self, format: &Format) -> bool {
+        let begins = |character| match character {
+            LF | CR => true,
+            _ if format.layout.has_tabs() => character == HT,
+            _ => format.items.iter().any(|item| item.letter == character),
+        };
+        format.unnumbered && self.here().is_some_and(begins)
+    }
+
+    /// Each tab steps to the next item; its word follows, or nothing. Whether there was a word.
+    fn tabbed_words<V: Visitor>(&mut self, format: &Format, visitor: &mut V) -> Result<bool, Refusal> {
         let mut due = format.items.iter();
+        let mut worded = false;
         while self.here() == Some(HT) {
             let item = due.next().ok_or_else(|| self.wrong(10))?;
             self.step();
             if self.here() == Some(item.letter) {
                 visitor.word(item.letter, self.word(item)?);
+                worded = true;
             }
         }
-        Ok(())
+        Ok(worded)
     }
 
-    /// Each tab steps to the next item; the digits of its word follow, with a sign or not, or nothing. Merged into `block` it
-    /// would slow the two others down.
+    /// Each tab steps to the next item; the digits of its word follow, with a sign or not, or nothing. Whether there was a
+    /// word. Merged into `block` it would slow the two others down.
     #[inline(never)]
-    fn words_without_addresses<V: Visitor>(&mut self, format: &Format, visitor: &mut V) -> Result<(), Refusal> {
+    fn words_without_addresses<V: Visitor>(&mut self, format: &Format, visitor: &mut V) -> Result<bool, Refusal> {
         let mut due = format.items.iter();
+        let mut worded = false;
         while self.here() == Some(HT) {
             let item = due.next().ok_or_else(|| self.wrong(10))?;
             self.step();
             if matches!(self.here(), Some(b'0'..=b'9' | b'+' | b'-')) {
                 visitor.word(item.letter, self.data(item, self.place)?);
+                worded = true;
             }
         }
-        Ok(())
+        Ok(worded)
     }
 
-    /// Words in the shorthand's order, each at most once.
-    fn words<V: Visitor>(&mut self, format: &Format, visitor: &mut V) -> Result<(), Refusal> {
+    /// Words in the shorthand's order, each at most once. Whether there was one.
+    fn words<V: Visitor>(&mut self, format: &Format, visitor: &mut V) -> Result<bool, Refusal> {
         let mut due = format.items.iter();
+        let mut worded = false;
         while let Some(letter @ b'A'..=b'Z') = self.here() {
             let item = due.find(|item| item.letter == letter).ok_or_else(|| self.wrong(10))?;
             visitor.word(letter, self.word(item)?);
+            worded = true;
         }
-        Ok(())
+        Ok(worded)
     }
 
-    /// LF, or CR directly before LF.
-    fn end<V: Visitor>(&mut self, visitor: &mut V) -> Result<(), Refusal> {
+    /// LF, or CR directly before LF, of a block that has something: of one with neither number nor word the LF is wrong.
+    fn end<V: Visitor>(&mut self, something: bool, visitor: &mut V) -> Result<(), Refusal> {
         match self.here() {
             Some(LF) => {}
             Some(CR) => {
@@ -301,6 +338,9 @@ impl<'t> Reader<'t> {
                 }
             }
             _ => return Err(self.wrong(10)),
+        }
+        if !something {
+            return Err(self.wrong(9));
         }
         self.line_feed(visitor);
         Ok(())
@@ -432,6 +472,141 @@ mod tests {
     }
 
     #[test]
+    fn openings_by_1057() {
+        let without_n = |rows: &str| answer(1057, "N3.X+42*", &format!("%\n{rows}"));
+        for rows in ["\tX+000005\n", "\t\n", "\n", "\r\n", "\r\t", "\r", "X+000005\n", "\t"] {
+            assert_eq!(without_n(rows), (9, 2), "{rows:?}");
+            assert_eq!(without_n(&format!("/{rows}")), (9, 3), "{rows:?}");
+            assert_eq!(without_n(&format!("N001\n{rows}")), (9, 7), "{rows:?}");
+        }
+        assert_eq!(without_n(":\tX+000005\n"), (9, 3));
+        assert_eq!(without_n("/"), (14, 3));
+    }
+
+    #[test]
+    fn the_worked_cases_without_numbers() {
+        let format = shorthand::parse(2539, b"N3X+042*").unwrap();
+        let text = "%\nX5\nN007X6\n/X7\n";
+        let x = |opening, value| Block { opening, words: vec![(b'X', Value::Dimension(value))] };
+        let due = vec![x(Opening::BARE, 5), x(Opening::numbered(7), 6), x(Opening { skip: true, ..Opening::BARE }, 7)];
+        let mut blocks = Vec::new();
+        assert_eq!(read(&format, &tape(text), &mut blocks), Ok(()));
+        assert_eq!(blocks, due);
+        assert_eq!(block_rows(&format, &tape(text), 0), Ok(&tape("X5\n")[..]));
+        assert_eq!(block_rows(&format, &tape(text), 2), Ok(&tape("/X7\n")[..]));
+        assert_eq!(answer(2539, "N3X+042*", "%\n\n"), (9, 2));
+        assert_eq!(answer(2539, "N3X+042*", "%\n/\n"), (9, 3));
+        assert_eq!(answer(2539, "N3X+042*", "%\n:X5\n"), (9, 3));
+        assert_eq!(answer(2539, "N3.X+042*", "%\n\tX5\n"), (0, 1));
+        assert_eq!(answer(2539, "N3.X+042*", "%\nX5\n"), (9, 2));
+        assert_eq!(answer(2539, "N3.X+042*", "%\n\t\n"), (9, 3));
+        assert_eq!(answer(1057, "N3.X+42*", "%\n\tX+000005\n"), (9, 2));
+    }
+
+    /// Number 0 is a number.
+    #[test]
+    fn a_missing_number_is_not_number_0() {
+        let format = shorthand::parse(2539, b"N3X+042*").unwrap();
+        let opening = |text| read_block(&format, &tape(text), 0).map(|block| block.opening);
+        assert_eq!(opening("%\nN000X5\n"), Ok(Opening::numbered(0)));
+        assert_eq!(opening("%\nX5\n"), Ok(Opening::BARE));
+        assert_ne!(Opening::numbered(0), Opening::BARE);
+        assert_eq!(answer(2539, "N3X+042*", "%\nN000\n"), (0, 1));
+    }
+
+    /// What stands where a block would begin, behind the head, behind a block and behind "/", of all three layouts and of a
+    /// shorthand without items.
+    #[test]
+    fn where_a_block_would_begin() {
+        let before = ["%\n", "%\nN001\n", "%\n/", "%\n(A\n)/\0"];
+        let layouts = [("N3G2X+042*", ""), ("N3.G2.X+042*", ""), ("N3.G2.X+042*", "LTM110A"), ("N3*", ""), ("N3*", "LTM000A")];
+        for (shorthand, profile) in layouts {
+            let specification = Specification::new(2539, shorthand, profile);
+            let tabs = shorthand.contains('.');
+            for before in before {
+                let here = before.len() as u64;
+                let judged = |rows: &str| judged(&specification, &format!("{before}{rows}"));
+                assert_eq!(judged("\n"), (9, here));
+                assert_eq!(judged("\r\n"), (9, here + 1));
+                assert_eq!(judged("\r\0(A\n)\n"), (9, here + 6));
+                assert_eq!(judged("\rN001\n"), (10, here));
+                assert_eq!(judged("\r\r\n"), (10, here));
+                assert_eq!(judged("\r"), (14, here + 1));
+                assert_eq!(judged("\r\x7F"), (14, here + 2));
+                assert_eq!(judged(":\n"), (9, here + 1));
+                assert_eq!(judged(":\tX5\n"), (9, here + 1));
+                assert_eq!(judged("N\n"), (9, here + 1));
+                for other in "%+-0 \x08YZ".chars() {
+                    assert_eq!(judged(&format!("{other}01\n")), (9, here), "{other:?}");
+                }
+                // letters begin a block where there are no tabs, and a tab where there are
+                let letters = if shorthand == "N3G2X+042*" { 0 } else { 9 };
+                assert_eq!([judged("X5\n").0, judged("G01\n").0], [letters; 2]);
+                if !tabs {
+                    assert_eq!(judged("\tX5\n"), (9, here));
+                }
+                if before.contains('/') {
+                    assert_eq!(judged("/N001\n"), (9, here));
+                    assert_eq!(judged(""), (14, here));
+                }
+            }
+        }
+    }
+
+    #[test]
+    fn tabs_without_number() {
+        for (profile, [g, x, f]) in [("", ["G", "X", "F"]), ("LTM110A", [""; 3])] {
+            let specification = Specification::new(2539, "N3.G2.X+042.F3*", profile);
+            let judged = |rows: &str| judged(&specification, &format!("%\n{rows}"));
+            let address = x.len() as u64;
+            assert_eq!(judged(&format!("\t{g}01\n\t\t{x}5\n/\t\t\t{f}615\n")), (0, 3));
+            assert_eq!(judged(&format!("/\t\t{x}5\t\r\n\t\0(A)\t{x}6\n")), (0, 2));
+            // tabs and no word
+            assert_eq!(judged("\t\n"), (9, 3));
+            assert_eq!(judged("\t\t\t\n"), (9, 5));
+            assert_eq!(judged("/\t\r\n"), (9, 5));
+            assert_eq!(judged("\t\r\t\n"), (10, 3));
+            assert_eq!(judged("\t\rN001\n"), (10, 3));
+            assert_eq!(judged("\t\r"), (14, 4));
+            assert_eq!(judged("\t"), (14, 3));
+            // and with a word
+            assert_eq!(judged(&format!("\t\t{x}5\r\t")), (10, 5 + address));
+            assert_eq!(judged(&format!("\t\t{x}5\r")), (14, 6 + address));
+            assert_eq!(judged(&format!("\t\t{x}5")), (14, 5 + address));
+            // all other faults as behind a number
+            assert_eq!(judged("\t\t\t\t\n"), (10, 5));
+            assert_eq!(judged("\tN001\n"), (10, 3));
+            assert_eq!(judged("\t/\n"), (10, 3));
+            assert_eq!(judged("\t\tY5\n"), (10, 4));
+            assert_eq!(judged(&format!("\t\t{x}+\n")), (11, 5 + address));
+            assert_eq!(judged(&format!("\t\t\t{f}+615\n")), (12, 5 + address));
+            assert_eq!(judged(&format!("\t\t\t{f}605\n")), (13, 5));
+        }
+        // an address that is not due
+        assert_eq!(answer(2539, "N3.G2.X+042*", "%\n\tX5\n"), (10, 3));
+    }
+
+    #[test]
+    fn words_without_number() {
+        let judged = |rows: &str| answer(2539, "N3G2X+042F3*", &format!("%\n{rows}"));
+        // any item may stand first, and the order is the shorthand's
+        assert_eq!(judged("G01\nX5\nF615\nG01X5\r\nX5F615\n/F000\n"), (0, 6));
+        assert_eq!(judged("X5G01\n"), (10, 4));
+        assert_eq!(judged("X5X5\n"), (10, 4));
+        assert_eq!(judged("X5N001\n"), (10, 4));
+        assert_eq!(judged("X5\t\n"), (10, 4));
+        assert_eq!(judged("X\n"), (11, 3));
+        assert_eq!(judged("G+1\n"), (12, 3));
+        assert_eq!(judged("F605\n"), (13, 2));
+        assert_eq!(judged("X5\r\r"), (10, 4));
+        assert_eq!(judged("X5\r"), (14, 5));
+        assert_eq!(judged("X5"), (14, 4));
+        assert_eq!(judged("X"), (14, 3));
+        assert_eq!(judged("\0(A)X\x7F5\n(B\n)"), (0, 1));
+        assert_eq!(judged("M02\n"), (9, 2));
+    }
+
+    #[test]
     fn tabs_and_ends() {
         assert_eq!(answer(1057, PLAIN, "%\nN001\t\t\t\t\n"), (0, 1));
         assert_eq!(answer(1057, PLAIN, "%\nN001\t\t\t\t\t\n"), (10, 10));
@@ -518,8 +693,8 @@ mod tests {
         assert_eq!(rows(1), Ok(&tape[23..29]));
         assert_eq!(rows(2), Err(Refusal::new(15, 2)));
         assert_eq!(rows(u64::MAX), Err(Refusal::new(15, 2)));
-        let first = Opening { skip: true, alignment: false, sequence: 1 };
-        let second = Opening { skip: false, alignment: true, sequence: 2 };
+        let first = Opening { skip: true, ..Opening::numbered(1) };
+        let second = Opening { alignment: true, ..Opening::numbered(2) };
         let block = |n| read_block(&format, &tape, n);
         assert_eq!(block(0), Ok(Block { opening: first, words: vec![(b'G', Value::Plain(1))] }));
         assert_eq!(block(1), Ok(Block { opening: second, words: vec![] }));

@@ -121,6 +121,8 @@ impl Layout {
 pub struct Format {
     /// how many digits stand after N or ":"
     pub sequence: u32,
+    /// whether a block may have no sequence number
+    pub unnumbered: bool,
     /// what tells its words apart
     pub layout: Layout,
     /// the word items in their order
@@ -142,7 +144,8 @@ impl Item {
 pub fn parse(edition: u32, text: &[u8]) -> Result<Format, Refusal> {
     let edition = Edition::numbered(edition).ok_or(Refusal::new(1, 0))?;
     let (sequence, mut at) = sequence_item(edition, text)?;
-    let mut format = Format { sequence, layout: Layout::Addresses, items: Vec::with_capacity(ORDER.len()) };
+    let unnumbered = edition == Edition::Iso2539;
+    let mut format = Format { sequence, unnumbered, layout: Layout::Addresses, items: Vec::with_capacity(ORDER.len()) };
     loop {
         match text.get(at) {
             None => return Err(Refusal::new(2, text.len())),

@@ -22,11 +22,13 @@ struct Timed {
     block: fn(&mut Chance, &mut String),
 }
 
-/// With tabs and every digit; without tabs and with zeros dropped; as the first, but without addresses.
-const TIMED: [Timed; 3] = [
+/// With tabs and every digit; without tabs and with zeros dropped; as the first, but without addresses; as the second, but
+/// hardly a block with a number.
+const TIMED: [Timed; 4] = [
     Timed { edition: 1057, shorthand: "N3.G2.X+42.Y+42.Z+42.F3.S3.T2.M2*", profile: "", block: tabbed_block },
     Timed { edition: 2539, shorthand: "N4G2X+042Y+042Z+420I+042J+042F4S4T2M2*", profile: "", block: dropped_block },
     Timed { edition: 2539, shorthand: "N3.G2.X+42.Y+42.Z+42.F3.S3.T2.M2*", profile: "LTM333A", block: bare_block },
+    Timed { edition: 2539, shorthand: "N4G2X+042Y+042Z+420I+042J+042F4S4T2M2*", profile: "", block: unnumbered_block },
 ];
 
 fn main() -> ExitCode {
@@ -66,7 +68,7 @@ fn run() -> Result<(), Box<dyn Error>> {
 
 /// The tapes that are timed, each as the listing program reads it, with its profile beside it.
 fn write_tapes(folder: &Path) -> Result<(), Box<dyn Error>> {
-    for (timed, name) in TIMED.iter().zip(["every_digit", "dropped_zeros", "no_addresses"]) {
+    for (timed, name) in TIMED.iter().zip(["every_digit", "dropped_zeros", "no_addresses", "no_numbers"]) {
         let mut text = format!("{} {}\n", timed.edition, timed.shorthand).into_bytes();
         text.extend(timed.tape(MOST_ROWS));
         std::fs::write(folder.join(name), text)?;
@@ -222,12 +224,21 @@ impl Timed {
 }
 
 fn opening(chance: &mut Chance, text: &mut String, digits: usize) {
+    remark_and_skip(chance, text);
+    sequence(chance, text, digits);
+}
+
+/// A remark now and then, and "/" or not.
+fn remark_and_skip(chance: &mut Chance, text: &mut String) {
     if chance.happens(1, 40) {
         text.push_str("(SECOND CUT\n(AFTER TURNING)");
     }
     if chance.happens(1, 20) {
         text.push('/');
     }
+}
+
+fn sequence(chance: &mut Chance, text: &mut String, digits: usize) {
     let letter = if chance.happens(1, 50) { ':' } else { 'N' };
     let _ = write!(text, "{letter}{:0digits$}", chance.below(1_000));
 }
@@ -264,7 +275,24 @@ fn tabbed(chance: &mut Chance, text: &mut String, addresses: bool) {
 
 fn dropped_block(chance: &mut Chance, text: &mut String) {
     opening(chance, text, 4);
-    for letter in "GXYZIJFSTM".chars() {
+    dropped_words(chance, text, "GXYZIJFSTM");
+    end(chance, text);
+}
+
+/// One block of eight has a number, and each has a G, so that none has nothing.
+fn unnumbered_block(chance: &mut Chance, text: &mut String) {
+    remark_and_skip(chance, text);
+    if chance.happens(1, 8) {
+        sequence(chance, text, 4);
+    }
+    let _ = write!(text, "G{:02}", chance.below(100));
+    dropped_words(chance, text, "XYZIJFSTM");
+    end(chance, text);
+}
+
+/// About half of the words of `letters`.
+fn dropped_words(chance: &mut Chance, text: &mut String, letters: &str) {
+    for letter in letters.chars() {
         if chance.happens(1, 2) {
             continue;
         }
@@ -275,7 +303,6 @@ fn dropped_block(chance: &mut Chance, text: &mut String) {
             _ => write!(text, "{letter}{:02}", chance.below(100)),
         };
     }
-    end(chance, text);
 }
 
 fn sign(chance: &mut Chance) -> char {

@@ -3,7 +3,7 @@
 use super::chance::Chance;
 use super::misplaced::{self, Slipped};
 use super::profiles::{self, General};
-use super::{damage, preferred, programs};
+use super::{damage, preferred, programs, unnumbered};
 use crate::rows::{punched, LF, MOST_ROWS};
 use crate::specification::Specification;
 use crate::speeds::Speed;
@@ -169,6 +169,7 @@ pub fn tapes(seed: u64, size: usize) -> Vec<Input> {
             115 => cut_profiles(chance, &mut inputs),
             116..=120 => other_profile(chance, &mut inputs),
             121..=128 => faults_of_stages(chance, &mut inputs),
+            129..=136 => slipped_start(chance, &mut inputs),
             _ => bad_tape(chance, &mut inputs),
         }
     }
@@ -197,6 +198,12 @@ fn bad_tape(chance: &mut Chance, inputs: &mut Vec<Input>) {
         damage::tape(chance, &mut rows);
     }
     inputs.push(Input::count(plan.specification, rows));
+}
+
+/// A slip where a block begins, or where one without a number goes on.
+fn slipped_start(chance: &mut Chance, inputs: &mut Vec<Input>) {
+    let unnumbered::Slipped { specification, tape, refusal } = unnumbered::slipped(chance);
+    inputs.push(Input::count(specification, tape).known(Err(refusal)));
 }
 
 /// Some thousands of rows with faults of several stages, which must not speak out of turn.
@@ -478,6 +485,25 @@ pub const TAPE_STARTS: &[(&[u8], &[TapeStart])] = &[
             (2539, "N3F2S2*", "", "%\nN001F99S"),
         ],
     ),
+    // blocks with no number, and rows that begin none
+    (
+        b"\0\t\n\r01/:%NXF",
+        &[
+            (2539, "N3X+011F3*", "", "%\n"),
+            (2539, "N3X+011F3*", "", "%\n/"),
+            (2539, "N3X+011F3*", "", "%\nF000\n"),
+            (2539, "N3.X+011.F3*", "", "%\n"),
+            (2539, "N3.X+011.F3*", "", "%\n\t"),
+            (2539, "N3.X+011.F3*", "", "%\n/\t\t"),
+            (2539, "N3.X+011.F3*", "", "%\n\tX1\t\n"),
+            (2539, "N3.X+011.F3*", "LTM110A", "%\n"),
+            (2539, "N3.X+011.F3*", "LTM110A", "%\n/\t"),
+            (2539, "N3*", "", "%\n"),
+            (2539, "N3*", "LTM000A", "%\n/"),
+            (1057, "N3.X+11.F3*", "", "%\n"),
+            (1057, "N3.X+11.F3*", "", "%\nN001\n/"),
+        ],
+    ),
 ];
 
 /// An edition, a format, a profile and the beginning of a tape.
@@ -588,6 +614,9 @@ fn listed(chance: &mut Chance, at: usize) -> Listed {
     if at % 100 == 7 {
         return long_listing(chance);
     }
+    if chance.happens(1, 16) {
+        return slipped_listing(chance);
+    }
     let plan = programs::plan(chance);
     let mut tape = programs::tape(chance, &plan, 6);
     let Specification { edition, shorthand, mut profile } = plan.specification.clone();
@@ -606,6 +635,14 @@ fn listed(chance: &mut Chance, at: usize) -> Listed {
         _ => header = odd_header(chance, &shorthand),
     }
     Listed { input: [header, tape.rows].concat(), profile: argument(chance, profile), known }
+}
+
+/// A slip where a block begins, or where one without a number goes on.
+fn slipped_listing(chance: &mut Chance) -> Listed {
+    let unnumbered::Slipped { specification, tape, refusal } = unnumbered::slipped(chance);
+    let Specification { edition, shorthand, profile } = specification;
+    let input = [header(edition, &shorthand), tape].concat();
+    Listed { input, profile: argument(chance, profile), known: Some(format!("{refusal}\n")) }
 }
 
 /// A profile as an argument, which can't have a NUL; none is no argument, or an empty one.
@@ -775,6 +812,22 @@ mod tests {
         }
         for (edition, shorthand, profile, _) in TAPE_STARTS.iter().flat_map(|(_, starts)| *starts) {
             assert!(Specification::new(*edition, shorthand, profile).format().is_ok(), "{shorthand} {profile}");
+        }
+    }
+
+    /// The same of blocks with no number: of each edition and layout 9, and in 2539, where there are items, the rest too.
+    #[test]
+    fn beginnings_of_blocks() {
+        let (characters, starts) = TAPE_STARTS[4];
+        for start in starts {
+            let all = short_tapes(characters, start);
+            let [sound, nine, ten, cut] = [0, 9, 10, 14].map(|number| answered(&all, number));
+            let (edition, shorthand, _, tape) = *start;
+            assert!(nine > 200 && cut > 0, "{start:?}: {nine} {cut}");
+            assert!(ten > 20 || edition == 1057, "{start:?}: {ten}");
+            // five are of NUL alone; behind the last item's tab there is no room for a feed and an end
+            let worded = edition == 2539 && shorthand != "N3*" && !tape.ends_with("\t\t");
+            assert!(sound > 5 || !worded, "{start:?}: {sound}");
         }
     }
 

@@ -100,19 +100,21 @@ pub struct Reply {
     pub number: u64,
     /// 0 or the refusal's place
     pub place: u64,
+    /// whether a record without number was punched or read
+    pub unnumbered: bool,
     /// what is written behind the arrow: number and place, but for X, and what is handed back, on a refusal too
     written: String,
 }
 
 impl Reply {
     fn new(number: u64, place: u64, handed: &str) -> Reply {
-        Reply { number, place, written: format!("{number} {place} {handed}") }
+        Reply { number, place, unnumbered: false, written: format!("{number} {place} {handed}") }
     }
 
     /// The code where there is one. Where there is none, a record is refused with 18.
     fn exact(code: Option<u64>) -> Reply {
         let number = if code.is_some() { 0 } else { 18 };
-        Reply { number, place: 0, written: code.map_or(String::new(), |code| code.to_string()) }
+        Reply { number, place: 0, unnumbered: false, written: code.map_or(String::new(), |code| code.to_string()) }
     }
 }
 
@@ -163,8 +165,10 @@ impl Line {
             Line::Agreed(specification) => formed(specification.edition, specification.format()),
             Line::Block(Nth { specification, n, tape }) => {
                 let block = specification.format().and_then(|format| read_block(&format, tape, *n));
-                let none = Block { opening: Opening { skip: false, alignment: false, sequence: 0 }, words: Vec::new() };
-                handed_back(block, none, |block| record_text(&Record::from(&block)))
+                let unnumbered = block.as_ref().is_ok_and(|block| !block.opening.numbered);
+                // a refusal hands back a record with neither number nor word
+                let none = Block { opening: Opening::BARE, words: Vec::new() };
+                Reply { unnumbered, ..handed_back(block, none, |block| record_text(&Record::from(&block))) }
             }
             Line::Rows(Nth { specification, n, tape }) => {
                 let rows = specification.format().and_then(|format| block_rows(&format, tape, *n));
@@ -174,7 +178,8 @@ impl Line {
                 let Handed { specification, room, first, record } = &**handed;
                 let mut buffer = lent(*room, *first);
                 let count = punch_block(specification, record, &mut buffer);
-                handed_back(count, 0, |count| buffer_text(count, &buffer))
+                let unnumbered = !record.opening.numbered;
+                Reply { unnumbered, ..handed_back(count, 0, |count| buffer_text(count, &buffer)) }
             }
             Line::Spelt(_, line) => return line.answer(),
             Line::Remark(_) => return None,
@@ -221,7 +226,7 @@ fn handed_back<T>(result: Result<T, Refusal>, none: T, text: impl Fn(T) -> Strin
 
 /// The reply with a Format by that edition, or the empty one.
 fn formed(edition: u32, format: Result<Format, Refusal>) -> Reply {
-    let none = Format { sequence: 0, layout: Layout::Addresses, items: Vec::new() };
+    let none = Format { sequence: 0, unnumbered: false, layout: Layout::Addresses, items: Vec::new() };
     handed_back(format, none, |format| format_text(edition, &format))
 }
 
@@ -273,16 +278,24 @@ fn buffer_text(count: u64, buffer: &[u8]) -> String {
 
 /// A record, with the places behind its count up to the last one that is not cleared.
 fn record_text(record: &Record) -> String {
-    let Opening { skip, alignment, sequence } = record.opening;
-    let skip = if skip { '/' } else { '-' };
-    let letter = if alignment { ':' } else { 'N' };
-    let mut text = format!("{skip} {letter} {sequence} {}", record.count);
+    let skip = if record.opening.skip { '/' } else { '-' };
+    let letter = if record.opening.alignment { ':' } else { 'N' };
+    let mut text = format!("{skip} {letter} {} {}", number_text(record.opening), record.count);
     let last = record.places.iter().rposition(|&place| place != CLEARED).map_or(0, |last| last + 1);
     let counted = usize::try_from(record.count).unwrap_or(usize::MAX).min(record.places.len());
     for &word in &record.places[..last.max(counted)] {
         text += &format!(" {}", word_text(word));
     }
     text
+}
+
+/// The number or, where there is none, `-` and what its field holds but for 0.
+fn number_text(Opening { numbered, sequence, .. }: Opening) -> String {
+    match (numbered, sequence) {
+        (true, _) => sequence.to_string(),
+        (false, 0) => "-".into(),
+        (false, _) => format!("-{sequence}"),
+    }
 }
 
 fn word_text((letter, value): Word) -> String {
@@ -301,7 +314,8 @@ fn format_text(edition: u32, format: &Format) -> String {
         Layout::Both => "dots",
         Layout::Tabs => "tabs",
     };
-    let mut text = format!("{} {layout} {}", format.sequence, format.items.len());
+    let unnumbered = if format.unnumbered { "-" } else { "" };
+    let mut text = format!("{}{unnumbered} {layout} {}", format.sequence, format.items.len());
     for item in &format.items {
         text += &format!(" {}", item_text(edition, item));
     }
@@ -364,10 +378,13 @@ fn tape(chance: &mut Chance, input: Input) -> Vec<Posed> {
     make_sayable(&mut specification);
     let mut nth = || Nth { specification: specification.clone(), n: some_block(chance), tape: tape.clone() };
     let mut lines = vec![Line::Block(nth()), Line::Rows(nth()), Line::Count { specification, tape }];
-    if input.known.is_none_or(|known| known.number != 0) {
+    let sound = input.known.as_ref().is_some_and(|known| known.number == 0);
+    if !sound {
         lines = vec![lines.swap_remove(chance.below(3))];
     }
-    lines.into_iter().map(Posed::of).collect()
+    // a refusal of the tape comes before that of a block that isn't there
+    let known = input.known.filter(|_| !sound).map(|known| (known.number, known.place));
+    lines.into_iter().map(|line| Posed { line, known }).collect()
 }
 
 /// A block that a tape may have, or none does.
@@ -458,7 +475,7 @@ fn number(Input { ask, known }: Input) -> Vec<Posed> {
     }
 }
 
-/// Lines that ask nothing, bars and speeds at their edges, and tapes whose lines are as long as may be, or one byte longer.
+/// Lines that ask nothing, bars, speeds and missing numbers at their edges, and tapes whose lines are as long as may be, or one byte longer.
 pub fn edges() -> Vec<Posed> {
     let remarks = ["", "#", "# a remark", " B 1057 N3* %~", "b 1057 N3* %~", "BB 1057 N3* %~", "B1057 N3* %~", "1 2", "~"];
     let mut lines: Vec<Line> = remarks.iter().map(|text| Line::Remark(text.as_bytes().to_vec())).collect();
@@ -469,6 +486,7 @@ pub fn edges() -> Vec<Posed> {
     }
     lines.extend(bars());
     lines.extend(spelt_speeds());
+    lines.extend(spelt_numbers());
     lines.into_iter().map(Posed::of).collect()
 }
 
@@ -495,8 +513,7 @@ fn spelt_speeds() -> Vec<Line> {
     let code = |speed| Line::Code { digits: 2, speed };
     let exact = |speed| Line::ExactCode { digits: 2, speed };
     let punched = |speed| {
-        let opening = Opening { skip: false, alignment: false, sequence: 1 };
-        let record = Record::from(&Block { opening, words: vec![(b'F', Value::Speed(speed))] });
+        let record = Record::from(&Block { opening: Opening::numbered(1), words: vec![(b'F', Value::Speed(speed))] });
         Line::Punch(Box::new(Handed { specification: Specification::new(2539, "N3F2*", ""), room: 8, first: 0, record }))
     };
     vec![
@@ -511,6 +528,28 @@ fn spelt_speeds() -> Vec<Line> {
         spelt("J 2539 N3F2* 8 0 - N 1 1 FSr99", punched(Speed::Rapid)),
         spelt("J 2539 N3F2* 8 0 - N 1 1 FS11200000r", punched(Speed::Rate(11_200_000))),
         spelt("J 2539 N3F2* 8 0 - N 1 1 FS", punched(Speed::Rate(0))),
+    ]
+}
+
+/// A `-` says that there is no number, whatever digits follow it.
+fn spelt_numbers() -> Vec<Line> {
+    let punched = |opening, words: &[Word]| {
+        let record = Record::from(&Block { opening, words: words.to_vec() });
+        Line::Punch(Box::new(Handed { specification: Specification::new(2539, "N3T1*", ""), room: 7, first: 0, record }))
+    };
+    let t = [(b'T', Value::Plain(5))];
+    let skipped = Opening { skip: true, ..Opening::BARE };
+    let alignment = Opening { alignment: true, ..Opening::BARE };
+    vec![
+        spelt("J 2539 N3T1* 7 0 - N -0 1 TN5", punched(Opening::BARE, &t)),
+        spelt("J 2539 N3T1* 7 0 / N -007 1 TN5", punched(Opening { sequence: 7, ..skipped }, &t)),
+        spelt("J 2539 N3T1* 7 0 - N -99999 1 TN5", punched(Opening { sequence: 99_999, ..Opening::BARE }, &t)),
+        spelt("J 2539 N3T1* 7 0 - : -1 1 TN5", punched(Opening { sequence: 1, ..alignment }, &t)),
+        spelt("J 2539 N3T1* 7 0 - N - 0", punched(Opening::BARE, &[])),
+        spelt("J 2539 N3T1* 7 0 - N -", punched(Opening::BARE, &[])),
+        // a number that is not said is 0
+        spelt("J 2539 N3T1* 7 0 - N", punched(Opening::numbered(0), &[])),
+        spelt("J 2539 N3T1* 7 0 - N 000 1 TN5", punched(Opening::numbered(0), &t)),
     ]
 }
 
@@ -541,7 +580,7 @@ mod tests {
     }
 
     fn punching(room: usize, sequence: u64, words: &[Word]) -> Line {
-        let opening = Opening { skip: false, alignment: true, sequence };
+        let opening = Opening { alignment: true, ..Opening::numbered(sequence) };
         let record = Record::from(&Block { opening, words: words.to_vec() });
         Line::Punch(Box::new(Handed { specification: Specification::new(1057, PLAIN, ""), room, first: 254, record }))
     }
@@ -554,7 +593,7 @@ mod tests {
         assert_eq!(written(count), asked('B', "") + "0 0 2");
         assert_eq!(written(Line::Block(nth(0))), asked('W', " 0") + "0 0 - N 1 3 GN1 XD12500 FS1500000000");
         assert_eq!(written(Line::Block(nth(1))), asked('W', " 1") + "0 0 / N 2 1 XD-250");
-        assert_eq!(written(Line::Block(nth(2))), asked('W', " 2") + "15 2 - N 0 0");
+        assert_eq!(written(Line::Block(nth(2))), asked('W', " 2") + "15 2 - N - 0");
         assert_eq!(written(Line::Rows(nth(0))), asked('P', " 0") + "0 0 N001^G01^X+012500^F615~");
         assert_eq!(written(Line::Rows(nth(1))), asked('P', " 1") + "0 0 /N002^^X-000250~");
         assert_eq!(written(Line::Rows(nth(2))), asked('P', " 2") + "15 2");
@@ -563,8 +602,11 @@ mod tests {
     #[test]
     fn formats_of_the_rules() {
         assert_eq!(format(1057, PLAIN), "F 1057 N3.G2.X+42.F3.M2* -> 0 0 3 dots 4 GP2 XD+4.2=s FS3 MP2");
-        assert_eq!(format(2539, "N9X+042Y420ZD10*"), "F 2539 N9X+042Y420ZD10* -> 0 0 9 plain 3 XD+4.2Lb YD.4.2Tb ZDD1.0=b");
+        assert_eq!(format(2539, "N9X+042Y420ZD10*"), "F 2539 N9X+042Y420ZD10* -> 0 0 9- plain 3 XD+4.2Lb YD.4.2Tb ZDD1.0=b");
         assert_eq!(format(1057, "N3.X42.E3.D42.F4*"), "F 1057 N3.X42.E3.D42.F4* -> 0 0 3 dots 4 XD.4.2=s ES3 DD.4.2=s FS4");
+        assert_eq!(format(2539, "N3X+42*"), "F 2539 N3X+42* -> 0 0 3- plain 1 XD+4.2=b");
+        assert_eq!(format(2539, "N3*"), "F 2539 N3* -> 0 0 3- plain 0");
+        assert_eq!(format(1057, "N3*"), "F 1057 N3* -> 0 0 3 plain 0");
         assert_eq!(format(2539, "N3X+040*"), "F 2539 N3X+040* -> 2 2 0 plain 0");
         assert_eq!(format(1057, "N3.X+042*"), "F 1057 N3.X+042* -> 3 2 0 plain 0");
         assert_eq!(format(1, ""), "F 1  -> 1 0 0 plain 0");
@@ -575,12 +617,12 @@ mod tests {
         let agreed = |edition, shorthand, profile| written(Line::Agreed(Specification::new(edition, shorthand, profile)));
         let asked = |rest: &str| format!("G 2539 N3.G2.X+042*|{rest}");
         let under = |profile| agreed(2539, "N3.G2.X+042*", profile);
-        assert_eq!(under("LTM110A"), asked("LTM110A| -> 0 0 3 tabs 2 GP2 XD+4.2Lb"));
-        assert_eq!(under("LSM 110 A"), asked("LSM 110 A| -> 0 0 3 dots 2 GP2 XD+4.2Lb"));
-        assert_eq!(under(""), asked("| -> 0 0 3 dots 2 GP2 XD+4.2Lb"));
+        assert_eq!(under("LTM110A"), asked("LTM110A| -> 0 0 3- tabs 2 GP2 XD+4.2Lb"));
+        assert_eq!(under("LSM 110 A"), asked("LSM 110 A| -> 0 0 3- dots 2 GP2 XD+4.2Lb"));
+        assert_eq!(under(""), asked("| -> 0 0 3- dots 2 GP2 XD+4.2Lb"));
         assert_eq!(under("LTM110"), asked("LTM110| -> 22 6 0 plain 0"));
         assert_eq!(under("LAM110A"), asked("LAM110A| -> 23 0 0 plain 0"));
-        assert_eq!(agreed(2539, "N4*", "PTM000B"), "G 2539 N4*|PTM000B| -> 0 0 4 plain 0");
+        assert_eq!(agreed(2539, "N4*", "PTM000B"), "G 2539 N4*|PTM000B| -> 0 0 4- plain 0");
         assert_eq!(agreed(1057, "N4*", "?"), "G 1057 N4*|?| -> 3 0 0 plain 0");
     }
 
@@ -593,8 +635,7 @@ mod tests {
         assert_eq!(written(count), format!("B {asked} %~N001^01^5~ -> 0 0 1"));
         let nth = Nth { specification: specification.clone(), n: 0, tape };
         assert_eq!(written(Line::Block(nth)), format!("W {asked} 0 %~N001^01^5~ -> 0 0 - N 1 2 GN1 XD5"));
-        let opening = Opening { skip: false, alignment: false, sequence: 2 };
-        let record = Record::from(&Block { opening, words: vec![(b'X', Value::Dimension(0))] });
+        let record = Record::from(&Block { opening: Opening::numbered(2), words: vec![(b'X', Value::Dimension(0))] });
         let handed = Handed { specification, room: 14, first: 0, record };
         assert_eq!(written(Line::Punch(Box::new(handed))), format!("J {asked} 14 0 - N 2 1 XD0 -> 0 0 14 N002^^+000000~"));
     }
@@ -615,7 +656,8 @@ mod tests {
 
     #[test]
     fn rubbish_behind_the_count() {
-        let mut record = Record::from(&Block { opening: Opening { skip: true, alignment: false, sequence: 7 }, words: vec![] });
+        let opening = Opening { skip: true, ..Opening::numbered(7) };
+        let mut record = Record::from(&Block { opening, words: vec![] });
         assert_eq!(record_text(&record), "/ N 7 0");
         record.places[1] = (200, Value::Plain(7));
         assert_eq!(record_text(&record), "/ N 7 0 #0N0 #200N7");
@@ -654,6 +696,38 @@ mod tests {
         let lines: Vec<String> = spelt_speeds().into_iter().map(written).collect();
         assert_eq!(lines[1], "C 2 r9 -> 0 0 99");
         assert_eq!(lines[7], "J 2539 N3F2* 8 0 - N 1 1 FSs -> 0 0 8 N001F00~");
+    }
+
+    #[test]
+    fn records_without_number() {
+        let x = vec![(b'X', Value::Dimension(5))];
+        let record = |sequence| Record::from(&Block { opening: Opening { sequence, ..Opening::BARE }, words: x.clone() });
+        assert_eq!(record_text(&record(0)), "- N - 1 XD5");
+        assert_eq!(record_text(&record(7)), "- N -7 1 XD5");
+        let specification = Specification::new(2539, "N3X+042*", "");
+        let line = |n| Line::Block(Nth { specification: specification.clone(), n, tape: rows("%\n/X5\nN000\n") });
+        assert_eq!(written(line(0)), "W 2539 N3X+042* 0 %~/X5~N000~ -> 0 0 / N - 1 XD5");
+        assert_eq!(written(line(1)), "W 2539 N3X+042* 1 %~/X5~N000~ -> 0 0 - N 0 0");
+        assert_eq!(written(line(2)), "W 2539 N3X+042* 2 %~/X5~N000~ -> 15 2 - N - 0");
+        assert_eq!([0, 1, 2].map(|n| line(n).answer().unwrap().unnumbered), [true, false, false]);
+        let lines: Vec<String> = spelt_numbers().into_iter().map(written).collect();
+        assert_eq!(lines[1], "J 2539 N3T1* 7 0 / N -007 1 TN5 -> 0 0 4 /T5~\\004\\005\\006");
+        assert_eq!(lines[3], "J 2539 N3T1* 7 0 - : -1 1 TN5 -> 16 0 0 _\\001\\002\\003\\004\\005\\006");
+        assert_eq!(lines[5], "J 2539 N3T1* 7 0 - N - -> 16 0 0 _\\001\\002\\003\\004\\005\\006");
+        assert_eq!(lines[7], "J 2539 N3T1* 7 0 - N 000 1 TN5 -> 0 0 7 N000T5~");
+    }
+
+    /// What a tape is refused with is the same whatever is asked.
+    #[test]
+    fn tapes_are_answered_as_they_were_made() {
+        let posed = tapes(11, 5_000);
+        let known = posed.iter().filter(|posed| posed.known.is_some());
+        assert!(known.clone().count() > 500);
+        for posed in known {
+            let text = posed.line.text();
+            let reply = posed.reply(&text).map(|reply| (reply.number, reply.place));
+            assert!(reply.is_none() || reply == posed.known, "{}", text.escape_ascii());
+        }
     }
 
     #[test]

@@ -11,3 +11,4 @@ mod preferred;
 mod profiles;
 pub mod programs;
 pub mod records;
+mod unnumbered;

@@ -77,6 +77,15 @@ impl Plan {
         self.specification.profile = profile.text();
         self
     }
+
+    pub(super) fn is_newer(&self) -> bool {
+        self.specification.edition == 2539
+    }
+
+    /// Whether a block, which has a word or none, has no number: now and then where it may.
+    pub(super) fn leaves_number_out(&self, chance: &mut Chance, worded: bool) -> bool {
+        self.is_newer() && worded && chance.happens(1, 3)
+    }
 }
 
 /// A sound shorthand of either edition, about half of the time under a profile.
@@ -186,9 +195,9 @@ pub struct Tape {
 }
 
 /// Rows as they are punched, with what may stand anywhere strewn between them.
-struct Punch<'c> {
-    chance: &'c mut Chance,
-    rows: Vec<u8>,
+pub(super) struct Punch<'c> {
+    pub chance: &'c mut Chance,
+    pub rows: Vec<u8>,
     /// how many characters of 64 have something strewn before them
     strewn: usize,
     /// how many chances of 64 to break a rule are taken; 0 for a sound tape
@@ -206,16 +215,8 @@ pub fn slipped_rows(chance: &mut Chance, plan: &Plan, most: usize) -> Vec<u8> {
 }
 
 fn punched_tape(chance: &mut Chance, plan: &Plan, most: usize, slips: usize) -> Tape {
-    let count = chance.below(most + 1);
-    let strewn = chance.one_of(&[0, 0, 1, 4, 24]);
-    let mut punch = Punch { chance, rows: Vec::new(), strewn, slips };
-    if punch.chance.happens(1, 3) {
-        let leader = punch.chance.below(8);
-        punch.rows.extend(vec![NUL; leader]);
-    }
-    punch.character(b'%');
-    punch.end();
-    let blocks = (0..count).map(|_| block(&mut punch, plan)).collect();
+    let mut punch = Punch::begun(chance, slips);
+    let blocks = blocks(&mut punch, plan, most);
     if punch.chance.happens(1, 3) {
         punch.strew();
     }
@@ -241,16 +242,15 @@ pub fn long_tape(chance: &mut Chance, plan: &Plan, length: usize) -> Tape {
     Tape { rows: punch.rows, blocks }
 }
 
+/// `most` blocks or fewer.
+pub(super) fn blocks(punch: &mut Punch, plan: &Plan, most: usize) -> Vec<Block> {
+    (0..punch.chance.below(most + 1)).map(|_| block(punch, plan)).collect()
+}
+
 fn block(punch: &mut Punch, plan: &Plan) -> Block {
-    let skip = punch.chance.happens(1, 4);
-    if skip {
-        punch.character(b'/');
-    }
-    let alignment = punch.chance.happens(1, 4);
-    punch.character(if alignment { b':' } else { b'N' });
-    let sequence = punch.digits(plan.sequence);
     let density = punch.chance.below(11);
     let present: Vec<bool> = plan.items.iter().map(|_| punch.chance.happens(density, 10)).collect();
+    let opening = opening(punch, plan, present.contains(&true));
     // tabs after the last word may stay or go
     let needed = present.iter().rposition(|&p| p).map_or(0, |last| last + 1);
     let kept = if punch.chance.happens(1, 2) { needed } else { needed + punch.chance.below(present.len() - needed + 1) };
@@ -268,7 +268,18 @@ fn block(punch: &mut Punch, plan: &Plan) -> Block {
         }
     }
     punch.end();
-    Block { opening: Opening { skip, alignment, sequence }, words }
+    Block { opening, words }
+}
+
+/// "/" or not, and the sequence word. A slip leaves it out where it must stand.
+fn opening(punch: &mut Punch, plan: &Plan, worded: bool) -> Opening {
+    let skip = punch.skip();
+    if plan.leaves_number_out(punch.chance, worded) || punch.slips() {
+        return Opening { skip, ..Opening::BARE };
+    }
+    let alignment = punch.chance.happens(1, 4);
+    punch.character(if alignment { b':' } else { b'N' });
+    Opening { skip, alignment, ..Opening::numbered(punch.digits(plan.sequence)) }
 }
 
 fn word(punch: &mut Punch, made: Made, edition: u32) -> Value {
@@ -296,13 +307,35 @@ fn word(punch: &mut Punch, made: Made, edition: u32) -> Value {
     }
 }
 
-impl Punch<'_> {
+impl<'c> Punch<'c> {
+    /// Perhaps a leader, and the head.
+    pub fn begun(chance: &'c mut Chance, slips: usize) -> Punch<'c> {
+        let strewn = chance.one_of(&[0, 0, 1, 4, 24]);
+        let mut punch = Punch { chance, rows: Vec::new(), strewn, slips };
+        if punch.chance.happens(1, 3) {
+            let leader = punch.chance.below(8);
+            punch.rows.extend(vec![NUL; leader]);
+        }
+        punch.character(b'%');
+        punch.end();
+        punch
+    }
+
+    /// "/" or not.
+    pub fn skip(&mut self) -> bool {
+        let skip = self.chance.happens(1, 4);
+        if skip {
+            self.character(b'/');
+        }
+        skip
+    }
+
     /// Whether a rule is broken here.
     fn slips(&mut self) -> bool {
         self.slips > 0 && self.chance.happens(self.slips, 64)
     }
 
-    fn character(&mut self, character: u8) {
+    pub fn character(&mut self, character: u8) {
         if self.chance.happens(self.strewn, 64) {
             self.strew();
         }
@@ -310,7 +343,7 @@ impl Punch<'_> {
     }
 
     /// NUL, DEL and control-outs, which may stand anywhere.
-    fn strew(&mut self) {
+    pub fn strew(&mut self) {
         for _ in 0..1 + self.chance.below(3) {
             match self.chance.below(4) {
                 0 => self.rows.push(punched(NUL)),
@@ -436,6 +469,24 @@ mod tests {
             assert_eq!(reading::read(&format, &tape.rows, &mut blocks), Ok(()));
             assert_eq!(blocks, tape.blocks);
         }
+    }
+
+    /// Of every layout of 2539, with "/" and without, and with the first items left out.
+    #[test]
+    fn numbers_are_left_out_wherever_they_may() {
+        let chance = &mut Chance::new(5);
+        let mut seen = [[[0; 2]; 2]; 3];
+        for _ in 0..10_000 {
+            let plan = plan(chance);
+            for Block { opening, words } in tape(chance, &plan, 4).blocks {
+                if !opening.numbered {
+                    assert!(plan.is_newer() && !opening.alignment && !words.is_empty());
+                    let first = words[0].0 == plan.items[0].0;
+                    seen[plan.layout as usize][usize::from(opening.skip)][usize::from(first)] += 1;
+                }
+            }
+        }
+        assert!(seen.as_flattened().as_flattened().iter().all(|&seen| seen > 50), "{seen:?}");
     }
 
     /// Seen in the letters of the items, with `d` for a dimension and `f` for an E or D that is a feed.

@@ -74,11 +74,14 @@ impl Sound {
 }
 
 fn sound(chance: &mut Chance, plan: &Plan) -> Sound {
-    let opening =
-        Opening { skip: chance.happens(1, 4), alignment: chance.happens(1, 4), sequence: number(chance, plan.sequence) };
+    let opening = Opening {
+        skip: chance.happens(1, 4),
+        alignment: chance.happens(1, 4),
+        ..Opening::numbered(number(chance, plan.sequence))
+    };
     let mut record = Record { opening, count: 0, places: [CLEARED; PLACES] };
-    // N or ":", its digits, and LF
-    let mut needed = usize::from(opening.skip) + 1 + plan.sequence + 1;
+    // "/", and LF
+    let mut needed = usize::from(opening.skip) + 1;
     let mut tabs = 0;
     let density = chance.below(11);
     for (at, &(letter, made)) in plan.items.iter().enumerate() {
@@ -92,10 +95,24 @@ fn sound(chance: &mut Chance, plan: &Plan) -> Sound {
     if plan.layout.has_tabs() {
         needed += tabs;
     }
+    if plan.leaves_number_out(chance, record.count > 0) {
+        record.opening.alignment = false;
+        take_number(chance, &mut record);
+    } else {
+        // N or ":", and its digits
+        needed += 1 + plan.sequence;
+    }
     if chance.happens(1, 4) {
         litter(chance, &mut record);
     }
     Sound { record, needed }
+}
+
+/// Takes the number away, and may leave rubbish in its field, which nobody looks at.
+fn take_number(chance: &mut Chance, record: &mut Record) {
+    let rubbish = chance.number() >> chance.below(64);
+    record.opening.numbered = false;
+    record.opening.sequence = chance.one_of(&[0, 0, record.opening.sequence, 1_000, rubbish, u64::MAX]);
 }
 
 /// The rows of a word but for its address: its sign and all its digits.
@@ -229,6 +246,9 @@ type Fault = fn(&mut Chance, &Plan, &mut Record) -> Option<Refusal>;
 const FAULTS: &[Fault] = &[
     too_many_words,
     sequence_too_large,
+    neither_number_nor_word,
+    alignment_without_number,
+    no_number_by_1057,
     foreign_letter,
     exchanged_words,
     repeated_word,
@@ -267,7 +287,27 @@ fn too_many_words(chance: &mut Chance, _: &Plan, record: &mut Record) -> Option<
 
 fn sequence_too_large(chance: &mut Chance, plan: &Plan, record: &mut Record) -> Option<Refusal> {
     record.opening.sequence = beyond(chance, plan.sequence);
-    Some(Refusal::new(17, 0))
+    record.opening.numbered.then_some(Refusal::new(17, 0))
+}
+
+/// Its words stand past the count.
+fn neither_number_nor_word(chance: &mut Chance, _: &Plan, record: &mut Record) -> Option<Refusal> {
+    take_number(chance, record);
+    record.count = 0;
+    Some(Refusal::new(16, 0))
+}
+
+fn alignment_without_number(chance: &mut Chance, _: &Plan, record: &mut Record) -> Option<Refusal> {
+    take_number(chance, record);
+    record.opening.alignment = true;
+    Some(Refusal::new(16, 0))
+}
+
+fn no_number_by_1057(chance: &mut Chance, plan: &Plan, record: &mut Record) -> Option<Refusal> {
+    (!plan.is_newer()).then(|| {
+        take_number(chance, record);
+        Refusal::new(16, 0)
+    })
 }
 
 /// A number of more than `digits` digits, and at most `i64` holds it half of the time.
@@ -428,18 +468,27 @@ mod tests {
 
     #[test]
     fn what_was_made_is_punched() {
-        let mut seen = [0; 24];
+        let (mut seen, mut unnumbered, mut lacking) = ([0; 24], [0; 24], 0);
         for (handed, known) in records(3, 20_000) {
             let (before, answer, buffer) = punched(&handed);
             assert!(known.is_none_or(|known| known == answer));
             let rows = answer.unwrap_or(0) as usize;
             assert_eq!(before[rows..], buffer[rows..]);
             assert!(handed.room <= MOST_ROOM);
-            seen[answer.err().map_or(0, |refusal| refusal.number as usize)] += 1;
+            let number = answer.err().map_or(0, |refusal| refusal.number as usize);
+            seen[number] += 1;
+            unnumbered[number] +=
+                u32::from(!handed.record.opening.numbered && answer.err().is_none_or(|refusal| refusal.place != 0));
+            lacking += u32::from(answer == Err(Refusal::new(16, 0)));
         }
         for number in [0, 1, 2, 3, 16, 17, 18, 19, 22, 23] {
             assert!(seen[number] > 200, "{number} was seen {} times", seen[number]);
         }
+        // without a number: punched, refused for a word or for want of room, and refused for want of a number
+        for number in [0, 16, 17, 18, 19] {
+            assert!(unnumbered[number] > 50, "{number} was seen {} times without a number", unnumbered[number]);
+        }
+        assert!(lacking > 200, "{lacking}");
     }
 
     #[test]
@@ -453,6 +502,9 @@ mod tests {
             let format = handed.specification.format().unwrap();
             let mut cleared = handed.record.clone();
             cleared.places[cleared.count as usize..].fill(CLEARED);
+            if !cleared.opening.numbered {
+                cleared.opening.sequence = 0;
+            }
             let block = read_block(&format, &tape, 0).unwrap();
             assert_eq!(Record::from(&block), cleared);
             assert_eq!(block_rows(&format, &tape, 0), Ok(&tape[2..]));

@@ -1,6 +1,7 @@
 //! Through the C host: block counts, coded speeds and the head.
 
 use super::{add, seen, seen_often, tell, worker_failed, Batch, Order, Seen, Turns};
+use second_opinion::reading::{self, Opening, Value, Visitor};
 use second_opinion::shorthand::{Format, Kind};
 use second_opinion::trial::door::Door;
 use second_opinion::trial::inputs::{self, Answer, Ask, Input};
@@ -14,11 +15,12 @@ const BATCH: usize = 500;
 const LONG: usize = 64;
 const LONG_BATCH: usize = 8;
 /// How often each refusal of a tape, shorthand or profile must be seen, and which answers to a tape without addresses, to one
-/// with speeds of two digits, and to a speed, code or head.
+/// with speeds of two digits, to one with a block without number, and to a speed, code or head.
 const LEAST: u64 = 50;
 const REFUSALS: &[usize] = &[1, 2, 3, 4, 5, 6, 7, 8, 9, 10, 11, 12, 13, 14, 22, 23];
 const WITHOUT_ADDRESSES: &[usize] = &[0, 10, 11, 12, 13, 14];
 const TWO_DIGITS: &[usize] = &[0, 10, 11, 12, 14];
+const UNNUMBERED: &[usize] = &[0, 9, 10, 11, 12, 14];
 const NUMBERS: &[usize] = &[0, 13, 19, 20, 21];
 
 pub fn compare(order: &Order) -> Result<bool, Box<dyn Error>> {
@@ -81,6 +83,35 @@ fn has_two_digits(format: &Format) -> bool {
     format.items.iter().any(|item| item.kind == Kind::Speed && item.most == 2)
 }
 
+/// Which blocks without number there are on a tape.
+#[derive(Default)]
+struct Unnumbered {
+    /// how many ended
+    read: u64,
+    /// whether the tape is in one
+    within: bool,
+}
+
+impl Visitor for Unnumbered {
+    fn block(&mut self, opening: Opening) {
+        self.within = !opening.numbered;
+    }
+    fn word(&mut self, _: u8, _: Value) {}
+    fn end(&mut self, _: usize) {
+        self.read += u64::from(self.within);
+        self.within = false;
+    }
+}
+
+/// Whether a block without number stands on a sound tape, or is the one that a tape is refused for.
+fn turns_on_unnumbered(format: &Format, tape: &[u8]) -> bool {
+    let mut seen = Unnumbered::default();
+    match reading::read(format, tape, &mut seen) {
+        Ok(()) => seen.read > 0,
+        Err(_) => seen.within,
+    }
+}
+
 /// What was seen through the C host.
 #[derive(Default)]
 struct Tally {
@@ -89,6 +120,8 @@ struct Tally {
     without_addresses: Seen,
     /// those that may have speeds of two digits
     two_digits: Seen,
+    /// those with a block without number, or refused for one
+    unnumbered: Seen,
     numbers: Seen,
     odd_holes: u64,
     differences: u64,
@@ -99,12 +132,13 @@ impl Tally {
         let reader = input.ask.answer();
         let number = reader.number as usize;
         match &input.ask {
-            Ask::Count { specification, .. } => {
+            Ask::Count { specification, tape } => {
                 self.tapes[number] += 1;
-                let format = specification.format();
-                let fits = |rule: fn(&Format) -> bool| u64::from(format.as_ref().is_ok_and(rule));
-                self.without_addresses[number] += fits(|format| !format.layout.has_addresses());
-                self.two_digits[number] += fits(has_two_digits);
+                if let Ok(format) = specification.format() {
+                    self.without_addresses[number] += u64::from(!format.layout.has_addresses());
+                    self.two_digits[number] += u64::from(has_two_digits(&format));
+                    self.unnumbered[number] += u64::from(turns_on_unnumbered(&format, tape));
+                }
             }
             _ => self.numbers[number] += 1,
         }
@@ -121,6 +155,7 @@ impl Tally {
         add(&mut self.tapes, &other.tapes);
         add(&mut self.without_addresses, &other.without_addresses);
         add(&mut self.two_digits, &other.two_digits);
+        add(&mut self.unnumbered, &other.unnumbered);
         add(&mut self.numbers, &other.numbers);
         self.odd_holes += other.odd_holes;
         self.differences += other.differences;
@@ -132,6 +167,7 @@ impl Tally {
             ("tapes, shorthands and profiles", &self.tapes, REFUSALS),
             ("of them tapes without addresses", &self.without_addresses, WITHOUT_ADDRESSES),
             ("of them tapes with two-digit speeds", &self.two_digits, TWO_DIGITS),
+            ("of them tapes with blocks without number", &self.unnumbered, UNNUMBERED),
             ("speeds, codes and heads", &self.numbers, NUMBERS),
         ];
         let mut well = self.differences == 0;

@@ -21,8 +21,11 @@ pub fn compare(order: &Order) -> Result<bool, Box<dyn Error>> {
         Ok(())
     })?;
     let tally = tally.into_inner()?;
-    let Tally { compared, named, differences, .. } = tally;
-    println!("listings: {compared} compared, {named} with stop or rapid, seen {}, {differences} differences", seen(&tally.seen));
+    let Tally { compared, named, unnumbered, differences, .. } = tally;
+    println!(
+        "listings: {compared} compared, {named} with stop or rapid, {unnumbered} with a block without number, seen {}, {differences} differences",
+        seen(&tally.seen)
+    );
     Ok(differences == 0 && compared == order.inputs as u64)
 }
 
@@ -32,6 +35,8 @@ struct Tally {
     compared: u64,
     /// those that show stop or rapid
     named: u64,
+    /// those that show a block without number
+    unnumbered: u64,
     seen: Seen,
     differences: u64,
 }
@@ -41,6 +46,7 @@ impl Tally {
         let reader = listing(input, profile.as_deref().unwrap_or(b""));
         self.compared += 1;
         self.named += u64::from(reader.contains("stop") || reader.contains("rapid"));
+        self.unnumbered += u64::from(reader.lines().any(|line| line.starts_with("N - ")));
         let number = reader.strip_prefix("refused ").and_then(|rest| rest.split(' ').next()?.parse().ok());
         self.seen[number.unwrap_or(0)] += 1;
         if found == reader.as_bytes() && known.as_ref().is_none_or(|known| *known == reader) {

@@ -23,6 +23,8 @@ const LEAST: &[(u8, &[usize], u64)] = &[
 ];
 /// The same of lines that say or answer stop or rapid.
 const LEAST_NAMED: &[(u8, &[usize], u64)] = &[(b'J', &[0, 18], 100), (b'W', &[0], 10)];
+/// The same of records without number, with those 16 alone that are at 0.
+const LEAST_UNNUMBERED: &[(u8, &[usize], u64)] = &[(b'J', &[0, 16], 200), (b'J', &[17, 18, 19], 100), (b'W', &[0], 20)];
 
 pub fn compare(order: &Order) -> Result<bool, Box<dyn Error>> {
     let batches = batches(order.inputs);
@@ -84,6 +86,8 @@ struct Tally {
     seen: BTreeMap<u8, Seen>,
     /// those with stop or rapid in the line or its answer
     named: BTreeMap<u8, Seen>,
+    /// those of records without number, but for 16 at a word
+    unnumbered: BTreeMap<u8, Seen>,
     unasked: u64,
     differences: u64,
 }
@@ -97,6 +101,8 @@ impl Tally {
                 let number = reply.number as usize;
                 self.seen.entry(text[0]).or_default()[number] += 1;
                 self.named.entry(text[0]).or_default()[number] += u64::from(names_a_speed(&reader));
+                let unnumbered = reply.unnumbered && (number != 16 || reply.place == 0);
+                self.unnumbered.entry(text[0]).or_default()[number] += u64::from(unnumbered);
             }
             None => self.unasked += 1,
         }
@@ -113,7 +119,8 @@ impl Tally {
     }
 
     fn add(&mut self, other: &Tally) {
-        for (own, others) in [(&mut self.seen, &other.seen), (&mut self.named, &other.named)] {
+        let Tally { seen, named, unnumbered, .. } = self;
+        for (own, others) in [(seen, &other.seen), (named, &other.named), (unnumbered, &other.unnumbered)] {
             others.iter().for_each(|(&letter, seen)| add(own.entry(letter).or_default(), seen));
         }
         self.unasked += other.unasked;
@@ -128,7 +135,11 @@ impl Tally {
             println!("{}: {asked}, seen {}", char::from(letter), seen(counts));
             total += asked;
         }
-        for (kind, all, due) in [("", &self.seen, LEAST), (" with stop or rapid", &self.named, LEAST_NAMED)] {
+        for (kind, all, due) in [
+            ("", &self.seen, LEAST),
+            (" with stop or rapid", &self.named, LEAST_NAMED),
+            (" without number", &self.unnumbered, LEAST_UNNUMBERED),
+        ] {
             for &(letter, numbers, least) in due {
                 let counts = all.get(&letter).copied().unwrap_or_default();
                 well &= seen_often(&format!("{}{kind}", char::from(letter)), &counts, numbers, least);
