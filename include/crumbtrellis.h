@@ -53,7 +53,9 @@ enum crumbtrellis_refusal {
     CRUMBTRELLIS_CONTROL_OUT = 7,       /* ")" outside a control-out, ":" or "%" inside one, "(" never closed; the lowest such
                                            row, an unclosed "(" at its own */
     CRUMBTRELLIS_HEAD = 8,              /* the tape does not begin with % and an end; the first wrong row, or the tape's length */
-    CRUMBTRELLIS_SEQUENCE = 9,          /* no N or ":", or a wrong count of digits behind it; the first wrong row */
+    CRUMBTRELLIS_SEQUENCE = 9,          /* no N or ":", or a wrong count of digits behind it; in 2539, where the number may be
+                                           missing, a row that begins no block; the first wrong row. There a block with neither
+                                           number nor word too; its LF */
     CRUMBTRELLIS_NOT_DUE = 10,          /* another character where a word, tab or end could stand, an address that is not due or,
                                            without addresses, any letter, a tab too many, CR without LF; that row, the CR's own */
     CRUMBTRELLIS_DIGITS = 11,           /* too few or too many digits in a word; the first wrong row */
@@ -63,8 +65,8 @@ enum crumbtrellis_refusal {
                                            or without addresses the word's first digit; 0 for a code given as a number */
     CRUMBTRELLIS_TAPE_ENDS = 14,        /* the tape ends inside a block; the tape's length */
     CRUMBTRELLIS_NO_BLOCK = 15,         /* block n is not there; the number of blocks */
-    CRUMBTRELLIS_RECORD = 16,           /* a record's count over 22, or a word that is no item, out of order or of the wrong kind;
-                                           23, or the word from 1 */
+    CRUMBTRELLIS_RECORD = 16,           /* a record's count over 22, no number where there must be one, or a word that is no item, out
+                                           of order or of the wrong kind; 23, 0, or the word from 1 */
     CRUMBTRELLIS_NUMBER = 17,           /* a number does not fit its item, or is negative without a sign; 0 for the sequence
                                            number, else the word from 1 */
     CRUMBTRELLIS_INEXACT = 18,          /* a speed has no exact code; the word from 1 */
