@@ -50,6 +50,10 @@ pub means-exact : (k : ℕ) (s : Speed) (c : ℕ) → speedFor k c ≡ taken s �
 unfolding exactFor
 means-exact k s c e = rw (code-again k c s e, e, same-self s)
 
+-- it is the code that the speed is given
+pub exact-coded : (k : ℕ) (s : Speed) (c : ℕ) → exactFor k s ≡ Means c → codeFor k s ≡ taken c
+exact-coded k s c e = code-again k c s (exact-means k s c e)
+
 -- how coding the speed, and then reading the code, decides it
 module _ (k : ℕ) (s : Speed) where
   pub exact-none : {n p : ℕ} → refused n p ≡ codeFor k s → Inexact ≡ exactFor k s

@@ -52,8 +52,10 @@ fn count_past(s: usize, v: u64) -> usize
     requires { ⌜ (s ≤ 13) × (v < 10 ^ 13) ⌝ }
     ensures { λ r. ⌜ r ≡ past s v ⌝ }
 {
+    // laid out once for all powers
+    let tens = TENS;
     let mut p = 0;
-    while ten(s + p) <= v {
+    while tens[s + p] <= v {
         p += 1;
     }
     p
