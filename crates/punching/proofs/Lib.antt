@@ -4,6 +4,7 @@ pub mod Refusals
 pub mod PunchedRows
 pub mod PunchedTapes
 pub mod FitRecords
+pub mod Measures
 pub mod Lines
 pub mod DigitTurns
 pub mod Magnitudes

@@ -1,17 +1,16 @@
--- Laws of the line that a block's rows are composed in: one put behind another is the put of both.
-use Prim.Native.Nat.{ℕ, _+_, _≤_}
+-- Laws of the line that a block's rows are composed in: one put behind another is the put of both, and a loop puts what is to come.
+use Prim.Native.Nat.{ℕ, _+_, _≤_, _<_}
 use mathlib.Core.Path.{_≡_, refl, sym, ap, _∙_}
-use mathlib.Core.List.{List, [], _∷_, _++_, append-nil, append-assoc, map-append}
+use mathlib.Core.List.{List, [], _∷_, _++_, append-nil, append-assoc, map, map-append}
 use mathlib.Core.Bool.{Bool, true, false, _&&_, not, cond}
-use native.Mathlib.Nat.{le-refl}
 use native.Mathlib.Omega.{arith}
-use lib.ListN.{length, take, length-append}
-use Rattle.rows.specs.Answer.{Answer, taken, refused, _>>_}
+use lib.ListN.{length, take, length-append, length-map}
+use lib.Seq.{sets, sets-eq, take-at, take-length, length-take-le}
 use Rattle.shorthand.specs.declared.Item.{Item}
-use Rattle.shorthand.specs.Layout.{Way, by-letter, by-both, by-tab, wayBy}
-use Rattle.reading.specs.Relation.{address, tab, skipRows}
+use Rattle.shorthand.specs.Layout.{wayBy}
+use Rattle.reading.specs.Relation.{address, tab}
 use Rattle.punching.specs.Rows.{rowOf}
-use Rattle.punching.specs.Line.{joined, Put, behind}
+use Rattle.punching.specs.Line.{joined, Put}
 
 pub joined-none : (p : List ℕ) → joined p [] ≡ p
 joined-none p = append-nil p
@@ -22,33 +21,55 @@ joined-more p xs ys = rw (map-append rowOf xs ys, append-assoc)
 pub put-none : (l : List ℕ) (at : ℕ) → Put l at [] l at
 put-none l at = record { end = omega arith; rows = sym (joined-none (take at l)) }
 
--- ---- what is judged: characters behind others, where nothing is refused
+pub put-more : {l₀ l l₂ : List ℕ} {at n m : ℕ} {xs ys : List ℕ} → Put l₀ at xs l n → Put l n ys l₂ m → Put l₀ at (xs ++ ys) l₂ m
+put-more {l₀} {at = at} {xs = xs} {ys = ys} h g =
+    record { end = omega (arith, h .end, g .end, length-append xs ys); rows = g .rows ∙ ap (λ p. joined p ys) (h .rows) ∙ sym (joined-more (take at l₀) xs ys) }
 
-pub judged-more : (p xs ys : List ℕ) (a : Answer (Unit {0})) → behind p (a >> taken (xs ++ ys)) ≡ behind (joined p xs) (a >> taken ys)
-judged-more p xs ys (taken tt) = ap taken (joined-more p xs ys)
-judged-more p xs ys (refused n q) = refl
+-- characters stored as rows from a place on
+pub put-sets : (l : List ℕ) (at : ℕ) (cs : List ℕ) → at + length cs ≤ length l → Put l at cs (sets l at (map rowOf cs)) (at + length cs)
+put-sets l at cs h =
+    let n = length-map cs rowOf in
+    let k : length (take at l ++ map rowOf cs) ≡ at + length cs = omega (arith, length-append (take at l) (map rowOf cs), length-take-le at l (omega arith)) in
+    record { end = refl; rows = rw (sets-eq (map rowOf cs) l at (omega arith)) (take-at (take at l ++ map rowOf cs) _ (at + length cs) k) }
 
-module _ {l₀ l : List ℕ} {at n : ℕ} {xs : List ℕ} (h : Put l₀ at xs l n) where
-  pub put-more : {l₂ ys : List ℕ} {m : ℕ} → Put l n ys l₂ m → Put l₀ at (xs ++ ys) l₂ m
-  put-more {l₂} {ys} g =
-      record { end = omega (arith, h .end, g .end, length-append xs ys); rows = g .rows ∙ ap (λ p. joined p ys) (h .rows) ∙ sym (joined-more (take at l₀) xs ys) }
+-- put from the first row to the last, they are the line
+pub put-all : {l₀ l : List ℕ} {n : ℕ} {cs : List ℕ} → Put l₀ 0 cs l n → length l ≡ length (map rowOf cs) → l ≡ map rowOf cs
+put-all {l = l} {n} {cs} g e = let k : length l ≡ n = omega (arith, g .end, length-map cs rowOf) in sym (take-length l) ∙ ap (λ i. take i l) k ∙ g .rows
 
-  pub put-judged : (ys : List ℕ) (a : Answer (Unit {0})) → behind (take n l) (a >> taken ys) ≡ behind (take at l₀) (a >> taken (xs ++ ys))
-  put-judged ys a = ap (λ p. behind p (a >> taken ys)) (h .rows) ∙ sym (judged-more (take at l₀) xs ys a)
+-- ---- a loop: what was to be put at first is what is to be put now
 
-pub skip-most : (skip : Bool) → length (skipRows skip) ≤ 1
-skip-most true = le-refl 1
-skip-most false = omega arith
+pub record Coming (l₀ : List ℕ) (start : ℕ) (all l : List ℕ) (at : ℕ) (rest : List ℕ) : Type 0 where
+  pub rows : joined (take start l₀) all ≡ joined (take at l) rest
+  pub end : at + length rest ≡ start + length all
+  pub same : length l ≡ length l₀
 
-pub tab-most : (y : Way) → length (tab y) ≤ 1
-tab-most by-letter = omega arith
-tab-most by-both = le-refl 1
-tab-most by-tab = le-refl 1
+-- at first all is to come
+pub coming-all : (l : List ℕ) (at : ℕ) (all : List ℕ) → Coming l at all l at all
+coming-all l at all = record { rows = refl; end = refl; same = refl }
 
-pub address-most : (y : Way) (it : Item) → length (address y it) ≤ 1
-address-most by-letter it = le-refl 1
-address-most by-both it = le-refl 1
-address-most by-tab it = omega arith
+-- what is put is to come no more
+pub coming-turn : {l₀ l l₂ : List ℕ} {start at n : ℕ} {all rest xs ys : List ℕ} → rest ≡ xs ++ ys → Coming l₀ start all l at rest → Put l at xs l₂ n → length l₂ ≡ length l
+    → Coming l₀ start all l₂ n ys
+coming-turn {l₀} {l} {l₂} {start} {at} {n} {all} {rest} {xs} {ys} e h g k =
+    record {
+      rows = h .rows ∙ ap (joined (take at l)) e ∙ joined-more (take at l) xs ys ∙ ap (λ p. joined p ys) (sym (g .rows));
+      end = omega (arith, h .end, g .end, ap length e, length-append xs ys);
+      same = k ∙ h .same;
+    }
+
+-- where nothing is to come, all is put
+pub coming-over : {l₀ l : List ℕ} {start at : ℕ} {all rest : List ℕ} → rest ≡ [] → Coming l₀ start all l at rest → Put l₀ start all l at
+coming-over {l = l} {at = at} e h = record { end = omega (arith, h .end, ap length e); rows = sym (h .rows ∙ ap (joined (take at l)) e ∙ joined-none (take at l)) }
+
+-- what is still to come has room behind what stands, and a row more
+pub coming-room : {l₀ l : List ℕ} {start at : ℕ} {all rest : List ℕ} → Coming l₀ start all l at rest → start + length all < length l₀ → at + length rest < length l
+coming-room h r = omega (arith, h .end, h .same, r)
+
+-- so there is a place for one row
+pub coming-place : {l₀ l : List ℕ} {start at : ℕ} {all rest : List ℕ} → Coming l₀ start all l at rest → start + length all < length l₀ → at < length l
+coming-place h r = omega (arith, coming-room h r)
+
+-- ---- tabs and addresses
 
 -- where the items have dots there are tabs, with addresses or without
 pub tab-dots : (addresses : Bool) → tab (wayBy true addresses) ≡ 9 ∷ []

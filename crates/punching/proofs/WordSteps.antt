@@ -1,21 +1,21 @@
--- One item after the other: how its letter and the next word's decide what the words from there on are.
+-- One item after the other: how its letter and the next word's decide what is left to judge and to put.
 use Prim.Native.Nat.{ℕ, zero, suc, _+_, _≤_, _<_}
-use mathlib.Core.Path.{_≡_, refl, sym, ap, _∙_}
+use mathlib.Core.Path.{_≡_, refl, sym, ap}
 use mathlib.Core.Bool.{Bool, true, false, _||_, cond}
 use mathlib.Core.List.{List, [], _∷_, _++_, append-assoc}
-use native.Mathlib.Nat.{le-of-suc-le-suc, not-suc-le-zero}
+use native.Mathlib.Nat.{zero-add, add-zero, le-of-suc-le-suc, not-suc-le-zero}
 use native.Mathlib.Numerals.{add-one}
 use native.Mathlib.Omega.{arith}
 use borrow.Author.Tests.{eq-eqb, ne-eqb, eqb-true, ltb-true}
 use lib.Dec.{T, eqb, ltb}
-use lib.ListN.{length, getD, drop, drop-of-length-le}
+use lib.ListN.{length, getD, drop, length-append, drop-of-length-le}
 use lib.Seq.{drop-cons, getD-take, length-take-le}
-use Rattle.rows.specs.Answer.{Answer, taken, refused, _>>_}
+use Rattle.rows.specs.Answer.{Answer, taken, refused, _>>=_, _>>_}
 use Rattle.shorthand.specs.declared.Item.{Item}
 use Rattle.shorthand.specs.declared.Format.{Format}
 use Rattle.shorthand.specs.Edition.{letters, anyOf}
 use Rattle.shorthand.specs.Layout as layout
-use Rattle.shorthand.specs.Layout.{itemsOf, Way, wayOf}
+use Rattle.shorthand.specs.Layout.{itemsOf, wayOf}
 use Rattle.shorthand.specs.Facts.{Fair, none, more, Facts}
 use Rattle.words.specs.declared.Word.{Word}
 use Rattle.reading.specs.declared.Block.{Block}
@@ -23,9 +23,7 @@ use Rattle.reading.specs.Record.{blank, wordsOf}
 use Rattle.reading.specs.Relation.{address, tab}
 use Rattle.shorthand.proofs.FormatItems.{item-at, items-end}
 use Rattle.punching.specs.Rows.{dataRows, wordRows}
-use Rattle.punching.specs.Fits.{valueFits, wordsFit}
-use Rattle.punching.specs.Line.{joined, behind, wordFor, wordsFor}
-use Rattle.punching.proofs.Lines.{joined-none, judged-more}
+use Rattle.punching.specs.Fits.{Fit, valueFits, wordsFit}
 
 -- ---- every letter of an item is a character of seven holes at most
 
@@ -64,71 +62,103 @@ module _ (b : Block) (long : length (b .words) ≡ 22) (few : b .count ≤ 22) w
   pub words-end : (i : ℕ) → b .count ≤ i → drop i (wordsOf b) ≡ []
   words-end i l = drop-of-length-le (wordsOf b) {i = i} (omega (arith, length-take-le (b .count) (b .words) (omega arith)))
 
--- ---- an item and a word
-
-module _ (p : List ℕ) (i : ℕ) (y : Way) (it : Item) (its : List Item) (w : Word) (ws : List Word) where
-  pub left-out : (w .letter ≡ it .letter → ⊥) → behind p (wordsFor i y (it ∷ its) (w ∷ ws)) ≡ behind (joined p (tab y)) (wordsFor i y its (w ∷ ws))
-  unfolding wordsFit wordRows
-  left-out n = rw (ne-eqb (w .letter) (it .letter) n) (judged-more p (tab y) (wordRows y its (w ∷ ws)) (wordsFit i its (w ∷ ws)))
-
-  put-in : (a b : Answer (Unit {0})) (xs ys q : List ℕ) → taken q ≡ behind (joined p (tab y)) (a >> taken xs) → behind p ((a >> b) >> taken (tab y ++ (xs ++ ys))) ≡ behind q (b >> taken ys)
-  put-in (taken tt) b xs ys q e =
-      let r : q ≡ joined (joined p (tab y)) xs = cc in
-      judged-more p (tab y) (xs ++ ys) b ∙ judged-more (joined p (tab y)) xs ys b ∙ ap (λ s. behind s (b >> taken ys)) (sym r)
-  put-in (refused n m) b xs ys q e = let z : _≡_ {A = ℕ} 0 1 = cc in absurd (omega arith)
-
-  turned : (a b : Answer (Unit {0})) (xs ys : List ℕ) (n m : ℕ) → refused n m ≡ behind (joined p (tab y)) (a >> taken xs) → behind p ((a >> b) >> taken ys) ≡ refused n m
-  turned (taken tt) b xs ys n m e = let z : _≡_ {A = ℕ} 0 1 = cc in absurd (omega arith)
-  turned (refused k l) b xs ys n m e = sym e
-
-  module _ (same : w .letter ≡ it .letter) where
-    pub put-here : (q : List ℕ) → taken q ≡ behind (joined p (tab y)) (wordFor i y it (w .value)) → behind p (wordsFor i y (it ∷ its) (w ∷ ws)) ≡ behind q (wordsFor (i + 1) y its ws)
-    unfolding wordsFit wordRows
-    put-here q e =
-        rw (eq-eqb (w .letter) (it .letter) same, add-one, ← append-assoc (address y it) (dataRows (it .kind) (w .value)) (wordRows y its ws))
-        (put-in (valueFits i (it .kind) (w .value)) (wordsFit (suc i) its ws) (address y it ++ dataRows (it .kind) (w .value)) (wordRows y its ws) q e)
-
-    pub turned-away : (n m : ℕ) → refused n m ≡ behind (joined p (tab y)) (wordFor i y it (w .value)) → behind p (wordsFor i y (it ∷ its) (w ∷ ws)) ≡ refused n m
-    unfolding wordsFit wordRows
-    turned-away n m e =
-        rw (eq-eqb (w .letter) (it .letter) same)
-        (turned (valueFits i (it .kind) (w .value)) (wordsFit (suc i) its ws) (address y it ++ dataRows (it .kind) (w .value)) (tab y ++ (address y it ++ (dataRows (it .kind) (w .value) ++ wordRows y its ws))) n m e)
-
-pub none-left : (p : List ℕ) (i : ℕ) (y : Way) (its : List Item) → behind p (wordsFor i y its []) ≡ taken p
-unfolding wordsFit wordRows
-none-left p i y its = ap taken (joined-none p)
-
-pub no-item : (p : List ℕ) (i : ℕ) (y : Way) (w : Word) (ws : List Word) → behind p (wordsFor i y [] (w ∷ ws)) ≡ refused 16 i
-unfolding wordsFit wordRows
-no-item p i y w ws = refl
-
 -- ---- one turn of the walk over a Format's items and a block's words
 
--- what there is to come from item k and word i on, behind the rows p
-abbrev pub toCome : Format → Block → List ℕ → ℕ → ℕ → Answer (List ℕ)
-toCome f b p k i = behind p (wordsFor (i + 1) (wayOf f) (drop k (itemsOf f)) (drop i (wordsOf b)))
+-- what is left to judge and to put from item k and word i on
+abbrev pub fitLeft : Format → Block → ℕ → ℕ → Fit
+fitLeft f b k i = wordsFit (i + 1) (drop k (itemsOf f)) (drop i (wordsOf b))
 
-module _ (f : Format) (h : Facts f) (b : Block) (long : length (b .words) ≡ 22) (few : b .count ≤ 22) (p : List ℕ) (k i : ℕ) where
-  abbrev itemNow : Item
+abbrev pub rowsLeft : Format → Block → ℕ → ℕ → List ℕ
+rowsLeft f b k i = wordRows (wayOf f) (drop k (itemsOf f)) (drop i (wordsOf b))
+
+-- what a turn judges and puts before what is left from item m and word j on
+pub record Turn (f : Format) (b : Block) (k i : ℕ) (fit : Fit) (cs : List ℕ) (m j : ℕ) : Type 0 where
+  pub fits : fitLeft f b k i ≡ fit >> fitLeft f b m j
+  pub rows : rowsLeft f b k i ≡ cs ++ rowsLeft f b m j
+
+module _ (f : Format) (h : Facts f) (b : Block) (long : length (b .words) ≡ 22) (few : b .count ≤ 22) (k i : ℕ) where
+  abbrev pub itemNow : Item
   itemNow = getD (f .items) k layout.blank
 
-  abbrev wordNow : Word
+  abbrev pub wordNow : Word
   wordNow = getD (b .words) i blank
 
-  pub over : b .count ≤ i → toCome f b p k i ≡ taken p
-  over l = rw (words-end b long few i l) (none-left p (i + 1) (wayOf f) (drop k (itemsOf f)))
+  -- after the last word nothing is left
+  pub words-over : b .count ≤ i → (fitLeft f b k i ≡ taken tt) × (rowsLeft f b k i ≡ [])
+  unfolding wordsFit wordRows
+  words-over l = rw (words-end b long few i l) (refl, refl)
+
+  -- after the last item no row is left
+  pub items-over : f .count ≤ k → rowsLeft f b k i ≡ []
+  unfolding wordRows
+  items-over l = rw (items-end f h k l) (by (drop i (wordsOf b)))
+    where
+      by : (ws : List Word) → wordRows (wayOf f) [] ws ≡ []
+      by [] = refl
+      by (w ∷ ws) = refl
 
   module _ (m : i < b .count) where
-    pub items-over : f .count ≤ k → toCome f b p k i ≡ refused 16 (i + 1)
-    items-over l = rw (items-end f h k l, word-at b long few i m) (no-item p (i + 1) (wayOf f) wordNow (drop (i + 1) (wordsOf b)))
+    -- and a word is refused
+    pub word-alone : f .count ≤ k → fitLeft f b k i ≡ refused 16 (i + 1)
+    unfolding wordsFit
+    word-alone l = rw (items-end f h k l, word-at b long few i m)
 
     module _ (l : k < f .count) where
-      pub turn-out : (wordNow .letter ≡ itemNow .letter → ⊥) → toCome f b p k i ≡ toCome f b (joined p (tab (wayOf f))) (k + 1) i
-      turn-out n = rw (item-at f h k l, word-at b long few i m) (left-out p (i + 1) (wayOf f) itemNow (drop (k + 1) (itemsOf f)) wordNow (drop (i + 1) (wordsOf b)) n)
+      -- another letter: the item's word is left out, and its tab stands
+      pub turn-out : (wordNow .letter ≡ itemNow .letter → ⊥) → Turn f b k i (taken tt) (tab (wayOf f)) (k + 1) i
+      unfolding wordsFit wordRows
+      turn-out n =
+          let e = ne-eqb (wordNow .letter) (itemNow .letter) n in
+          record { fits = rw (item-at f h k l, word-at b long few i m, e); rows = rw (item-at f h k l, word-at b long few i m, e) }
 
-      module _ (same : wordNow .letter ≡ itemNow .letter) where
-        pub turn-in : (q : List ℕ) → taken q ≡ behind (joined p (tab (wayOf f))) (wordFor (i + 1) (wayOf f) itemNow (wordNow .value)) → toCome f b p k i ≡ toCome f b q (k + 1) (i + 1)
-        turn-in q e = rw (item-at f h k l, word-at b long few i m) (put-here p (i + 1) (wayOf f) itemNow (drop (k + 1) (itemsOf f)) wordNow (drop (i + 1) (wordsOf b)) same q e)
+      -- its letter: the tab, the address and the data
+      pub turn-in : wordNow .letter ≡ itemNow .letter
+          → Turn f b k i (valueFits (i + 1) (itemNow .kind) (wordNow .value)) (tab (wayOf f) ++ (address (wayOf f) itemNow ++ dataRows (itemNow .kind) (wordNow .value))) (k + 1) (i + 1)
+      unfolding wordsFit wordRows
+      turn-in same =
+          let e = eq-eqb (wordNow .letter) (itemNow .letter) same in
+          record { fits = rw (item-at f h k l, word-at b long few i m, e, add-one (i + 1)); rows = rw (item-at f h k l, word-at b long few i m, e, append-assoc, append-assoc) }
 
-        pub turn-away : (n q : ℕ) → refused n q ≡ behind (joined p (tab (wayOf f))) (wordFor (i + 1) (wayOf f) itemNow (wordNow .value)) → toCome f b p k i ≡ refused n q
-        turn-away n q e = rw (item-at f h k l, word-at b long few i m) (turned-away p (i + 1) (wayOf f) itemNow (drop (k + 1) (itemsOf f)) wordNow (drop (i + 1) (wordsOf b)) same n q e)
+-- ---- measuring in turns
+
+-- n rows and then those of a measure
+abbrev pub behind : ℕ → Answer ℕ → Answer ℕ
+behind n a = a >>= λ m. taken (n + m)
+
+pub behind-none : (a : Answer ℕ) → a ≡ behind 0 a
+behind-none (taken n) = ap taken (sym (zero-add n))
+behind-none (refused n p) = refl
+
+-- what is left to measure
+abbrev pub measuredLeft : Format → Block → ℕ → ℕ → Answer ℕ
+measuredLeft f b k i = fitLeft f b k i >> taken (length (rowsLeft f b k i))
+
+module _ (f : Format) (h : Facts f) (b : Block) (long : length (b .words) ≡ 22) (few : b .count ≤ 22) (k i n : ℕ) where
+  -- after the last word the rows so far are the answer
+  pub measured-over : b .count ≤ i → behind n (measuredLeft f b k i) ≡ taken n
+  measured-over l = let o = words-over f h b long few k i l in rw (o .0, o .1) (ap taken (add-zero n))
+
+  -- after the last item a word is refused
+  pub measured-alone : i < b .count → f .count ≤ k → behind n (measuredLeft f b k i) ≡ refused 16 (i + 1)
+  measured-alone m l = rw (word-alone f h b long few k i m l)
+
+module _ {f : Format} {b : Block} {k i m j : ℕ} {fit : Fit} {cs : List ℕ} (t : Turn f b k i fit cs m j) (n : ℕ) where
+  -- a turn that fits adds its rows
+  pub measured-turn : fit ≡ taken tt → behind n (measuredLeft f b k i) ≡ behind (n + length cs) (measuredLeft f b m j)
+  measured-turn e = rw (t .fits, t .rows, e) (by (fitLeft f b m j))
+    where
+      by : (a : Fit) → behind n (a >> taken (length (cs ++ rowsLeft f b m j))) ≡ behind (n + length cs) (a >> taken (length (rowsLeft f b m j)))
+      by (taken u) = ap taken (omega (arith, length-append cs (rowsLeft f b m j)))
+      by (refused x y) = refl
+
+  -- one that is refused is the answer
+  pub measured-away : (x y : ℕ) → fit ≡ refused x y → behind n (measuredLeft f b k i) ≡ refused x y
+  measured-away x y e = rw (t .fits, e)
+
+-- a turn's rows are those of its tab, its address and its data
+pub turn-width : (n : ℕ) (t a d : List ℕ) → n + length (t ++ (a ++ d)) ≡ n + length t + (length a + length d)
+turn-width n t a d = omega (arith, length-append t (a ++ d), length-append a d)
+
+-- and find room where what is to come does
+pub turn-room : {rest : List ℕ} {n x y : ℕ} (at : ℕ) (t a d r : List ℕ) → rest ≡ (t ++ (a ++ d)) ++ r → at + length rest < x → n ≡ at + length t → y ≡ x → n + length a + length d < y
+turn-room at t a d r e h i j = omega (arith, ap length e, length-append (t ++ (a ++ d)) r, turn-width 0 t a d)

@@ -1,14 +1,15 @@
-// Punching: the tape head, and one block under an edition, a shorthand and a profile, into a lent buffer.
+// Punching: the tape head, and one block under an edition, a shorthand and a profile: how many rows it needs, and the rows into a lent buffer.
 ghost use mathlib.Core.Path.{_≡_};
 ghost use Rattle.shorthand.specs.Facts.{Facts};
-ghost use Rattle.punching.specs.Answers.{headPunched, blockFor, blockPunched, written, after, punchedTold};
-ghost use Rattle.punching.specs.Line.{endOf};
+ghost use Rattle.punching.specs.Answers.{headPunched, measured, writtenFor, blockWritten, blockFor, blockPunched, written, after, measuredTold, punchedTold};
 
 mod compose;
 mod line;
+mod measure;
 
 use compose::compose_block;
 pub use line::magnitude_of;
+use measure::measure_under;
 use reading::Block;
 use rows::Checked;
 use rows::Refusal;
@@ -20,9 +21,9 @@ pub enum Punched {
     Refused(Refusal),
 }
 
-// The rows of a block so far, as many as stand in the line, or why there are none.
-enum Grown {
-    To(usize),
+// How many rows a record needs.
+pub enum Measured {
+    Rows(usize),
     Refused(Refusal),
 }
 
@@ -31,9 +32,6 @@ pub struct Magnitude {
     pub minus: bool,
     pub size: u64,
 }
-
-// The most rows that a block can have: "/", N and 9 digits; 22 words with a tab, an address, a sign and 18 digits each; LF.
-const LINE: usize = 474;
 
 // "%" and LF.
 pub fn punch_head(buffer: &mut [u8]) -> Punched
@@ -51,39 +49,74 @@ pub fn punch_head(buffer: &mut [u8]) -> Punched
     Punched::Rows(2)
 }
 
-// How many rows a line has for the buffer: none of a record that is refused.
-fn rows_in(grown: Grown) -> usize
-    ensures { λ r. ⌜ r ≡ endOf grown ⌝ }
+// The writer under a Format: it judges for itself, by the one measure, and asks for room before it writes.
+fn write_under(format: Format, block: Block, buffer: &mut [u8]) -> Punched
+    requires { ⌜ Facts format ⌝ }
+    ensures rows { λ r. ⌜ punchedTold r ≡ written (writtenFor format block (now (buffer .entry))) ⌝ }
+    ensures buffer { λ r. ⌜ now (buffer .exit) ≡ after (now (buffer .entry)) (writtenFor format block (now (buffer .entry))) ⌝ }
 {
-    match grown {
-        Grown::To(count) => count,
-        Grown::Refused(_) => 0,
+    let rows = match measure_under(format, block) {
+        Measured::Rows(n) => n,
+        Measured::Refused(r) => {
+            return Punched::Refused(r);
+        }
+    };
+    if buffer.len() < rows {
+        return Punched::Refused(Refusal {
+            number: 19,
+            place: rows,
+        });
     }
+    compose_block(&mut buffer[..rows], format, block);
+    Punched::Rows(rows)
 }
 
-// A block under a Format: the line is composed whole before the buffer is touched, and 19 is given only where the record itself is not refused.
+// Measured, and then written.
 fn punch_under(format: Format, block: Block, buffer: &mut [u8]) -> Punched
     requires { ⌜ Facts format ⌝ }
     ensures rows { λ r. ⌜ punchedTold r ≡ written (blockFor format block (now (buffer .entry))) ⌝ }
     ensures buffer { λ r. ⌜ now (buffer .exit) ≡ after (now (buffer .entry)) (blockFor format block (now (buffer .entry))) ⌝ }
 {
-    let mut line = [0u8; LINE];
-    let grown = compose_block(&mut line, format, block);
-    let count = rows_in(grown);
-    if buffer.len() < count {
-        return Punched::Refused(Refusal {
-            number: 19,
-            place: count,
-        });
-    }
-    bytes::copy(&line[..count], buffer);
-    match grown {
-        Grown::To(_) => Punched::Rows(count),
-        Grown::Refused(r) => Punched::Refused(r),
+    match measure_under(format, block) {
+        Measured::Rows(_) => write_under(format, block, buffer),
+        Measured::Refused(r) => Punched::Refused(r),
     }
 }
 
-// One block.
+// How many rows a block needs.
+pub fn measure_block(edition: u32, text: &[u8], profile: &[u8], block: Block) -> Measured
+    ensures { λ r. ⌜ measuredTold r ≡ measured edition (now (text .entry)) (now (profile .entry)) block ⌝ }
+{
+    let parsed = profile::parse(edition, text, profile);
+    let outcome = parsed.outcome;
+    let format = parsed.format;
+    match outcome {
+        Checked::Clean => measure_under(format, block),
+        Checked::Refused(r) => Measured::Refused(r),
+    }
+}
+
+// The rows of a block, where it has any and they find room.
+pub fn write_block(
+    edition: u32,
+    text: &[u8],
+    profile: &[u8],
+    block: Block,
+    buffer: &mut [u8],
+) -> Punched
+    ensures rows { λ r. ⌜ punchedTold r ≡ written (blockWritten edition (now (text .entry)) (now (profile .entry)) block (now (buffer .entry))) ⌝ }
+    ensures buffer { λ r. ⌜ now (buffer .exit) ≡ after (now (buffer .entry)) (blockWritten edition (now (text .entry)) (now (profile .entry)) block (now (buffer .entry))) ⌝ }
+{
+    let agreed = profile::parse(edition, text, profile);
+    let outcome = agreed.outcome;
+    let format = agreed.format;
+    match outcome {
+        Checked::Clean => write_under(format, block, buffer),
+        Checked::Refused(r) => Punched::Refused(r),
+    }
+}
+
+// One block, measured and written.
 pub fn punch_block(
     edition: u32,
     text: &[u8],
@@ -94,11 +127,11 @@ pub fn punch_block(
     ensures rows { λ r. ⌜ punchedTold r ≡ written (blockPunched edition (now (text .entry)) (now (profile .entry)) block (now (buffer .entry))) ⌝ }
     ensures buffer { λ r. ⌜ now (buffer .exit) ≡ after (now (buffer .entry)) (blockPunched edition (now (text .entry)) (now (profile .entry)) block (now (buffer .entry))) ⌝ }
 {
-    let parsed = profile::parse(edition, text, profile);
-    let outcome = parsed.outcome;
-    let format = parsed.format;
+    let settled = profile::parse(edition, text, profile);
+    let outcome = settled.outcome;
+    let format = settled.format;
     match outcome {
         Checked::Clean => punch_under(format, block, buffer),
-        Checked::Refused(r) => Punched::Refused(r),
+        Checked::Refused(refusal) => Punched::Refused(refusal),
     }
 }

@@ -77,22 +77,19 @@ pub fn put(line: &mut [u8], at: usize, c: u8) -> usize
     at + 1
 }
 
-// The n digits of v, the highest first.
+// The n digits of v, put from the last to the first: the remainders by ten give them so, and ten is a divisor that the compiler knows.
 pub fn put_digits(line: &mut [u8], start: usize, n: usize, v: u64) -> usize
-    requires { ⌜ (start + n ≤ length (now line)) × (n ≤ 18) × (v < 10 ^ n) ⌝ }
+    requires { ⌜ (start + n ≤ length (now line)) × (v < 10 ^ n) ⌝ }
     ensures { λ r. ⌜ Put (now (line .entry)) start (digits n v) (now (line .exit)) r ⌝ }
 {
-    let mut at = start;
     let mut rest = v;
-    let mut left = n;
-    while 0 < left {
-        left -= 1;
-        let unit = ten(left);
-        let digit = rest / unit;
-        rest = rest % unit;
-        at = put(line, at, 48 + digit as u8);
+    let mut i = n;
+    while 0 < i {
+        i -= 1;
+        line[start + i] = row_of(48 + (rest % 10) as u8);
+        rest = rest / 10;
     }
-    at
+    start + n
 }
 
 // A tab where the items have dots.
@@ -137,7 +134,7 @@ pub fn put_either(line: &mut [u8], at: usize, first: bool, a: u8, b: u8) -> usiz
 
 // "/" or not, and N or ":" and the number, or no number.
 pub fn put_start(line: &mut [u8], digits: usize, start: Begun) -> usize
-    requires { ⌜ (11 ≤ length (now line)) × (digits ≤ 9) × (start .numbered ≡ true → start .sequence < 10 ^ digits) ⌝ }
+    requires { ⌜ (length (startRows digits start) < length (now line)) × (start .numbered ≡ true → start .sequence < 10 ^ digits) ⌝ }
     ensures { λ r. ⌜ Put (now (line .entry)) 0 (startRows digits start) (now (line .exit)) r ⌝ }
 {
     let at = put_skip(line, start.skip);

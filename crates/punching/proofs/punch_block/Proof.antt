@@ -1,9 +1,11 @@
 -- `punching::punch_block`: by what the shorthand and the profile answered.
-use borrow.Author.Needs.{needs}
 use mathlib.Core.Path.{_∙_, sym, ap}
+use denote.Ref.{now}
 use Rattle.rows.specs.Answer.{told}
 use Rattle.reading.proofs.Numbered.{settled-facts}
+use Rattle.punching.specs.Answers.{blockFor, blockPunched}
 use Rattle.punching.proofs.WholeRecords.{leaves, under, under-refused}
+use borrow.Author.Needs.{needs}
 use Rattle.punching.proofs.punch_block.Statement.{statement}
 use Rattle.punching.proofs.punch_block.Tie as tie
 
@@ -23,10 +25,17 @@ same-length : tie.Need-same-length
 same-length c = search needs
 
 returns : tie.Need-returns
-returns c = rw (under (c .before .before .before .before .before .before .before .before .before .before .before .args .buffer .now) (c .before .before .before .before .before .before .before .before .before .before .before .args .edition) (c .before .before .before .before .before .before .before .before .before .before .before .args .text .now) (c .before .before .before .before .before .before .before .before .before .before .before .args .profile .now) (c .before .before .before .before .before .before .before .before .before .before .before .args .block) _ (c .before .before .before .before .before .before .before .parse .ensures .1) (sym (c .before .before .before .before .before .before .before .parse .ensures .0) ∙ ap told (c .before .before .before .before .enum-told .given .1))) (c .before .before .punch-under .ensures)
+unfolding blockPunched
+returns c =
+    let a = c .before .before .before .before .before .before .before .before .before .before .before .args in
+    let p = c .before .before .before .before .before .before .before .parse .ensures in
+    rw (under (λ f. blockFor f (a .block) (now (a .buffer))) (a .edition) (now (a .text)) (now (a .profile)) _ (p .1) (sym (p .0) ∙ ap told (c .before .before .before .before .enum-told .given .1))) (c .before .before .punch-under .ensures)
 
 returns-2 : tie.Need-returns-2
-returns-2 c = leaves _ _ _ _ (under-refused (c .before .before .before .before .before .before .before .before .args .buffer .now) (c .before .before .before .before .before .before .before .before .args .edition) (c .before .before .before .before .before .before .before .before .args .text .now) (c .before .before .before .before .before .before .before .before .args .profile .now) (c .before .before .before .before .before .before .before .before .args .block) _ _ (sym (c .before .before .before .before .parse .ensures .0) ∙ ap told (c .before .outcome .given .1)))
+unfolding blockPunched
+returns-2 c =
+    let a = c .before .before .before .before .before .before .before .before .args in
+    leaves (now (a .buffer)) _ _ _ (under-refused (λ f. blockFor f (a .block) (now (a .buffer))) (a .edition) (now (a .text)) (now (a .profile)) _ _ (sym (c .before .before .before .before .parse .ensures .0) ∙ ap told (c .before .outcome .given .1)))
 
 pub punch-block-spec : {M : Type 1} → statement M
 punch-block-spec =

@@ -1,8 +1,13 @@
 -- `punching::line::put_start`: the puts one behind the other; without a number "/" alone, or nothing.
-use native.Mathlib.Omega.{arith}
+use Prim.Native.Nat.{_+_}
+use mathlib.Core.Path.{ap, _∙_}
+use mathlib.Core.Bool.{cond}
 use mathlib.Core.List.{append-nil}
-use Rattle.reading.specs.Relation.{skipRows}
-use Rattle.punching.proofs.Lines.{put-more, skip-most}
+use native.Mathlib.Omega.{arith}
+use lib.ListN.{length-append}
+use Rattle.reading.specs.Relation.{skipRows, sequenceRows}
+use Rattle.punching.proofs.Lines.{put-more}
+use Rattle.punching.proofs.Measures.{sequence-length}
 use borrow.Author.Needs.{needs}
 use Rattle.punching.proofs.line.put_start.Statement.{statement}
 use Rattle.punching.proofs.line.put_start.Tie as tie
@@ -11,12 +16,15 @@ put-skip-requires : tie.Need-put-skip-requires
 put-skip-requires c κs = search needs
 
 put-either-requires : tie.Need-put-either-requires
-put-either-requires c κs = omega (arith, c .before .before .before .before .put-skip .ensures .end, c .before .before .before .before .put-skip .kept .0, skip-most (c .before .before .before .before .before .before .before .args .start .skip))
+put-either-requires c κs =
+    let a = c .before .before .before .before .before .before .before .args in
+    (omega (arith, c .before .before .before .before .put-skip .ensures .end, c .before .before .before .before .put-skip .kept .0, length-append (skipRows (a .start .skip)) (sequenceRows (a .digits) (a .start)), sequence-length (a .digits) (a .start) ∙ ap (λ x. cond x (1 + a .digits) 0) (c .before .if1 .taken)), omega arith, omega arith)
 
 put-digits-requires : tie.Need-put-digits-requires
 put-digits-requires c κs =
-    let first = c .before .before .before .before .before .before .before .before in
-    (omega (arith, c .before .before .before .put-either .ensures .end, c .before .before .before .put-either .kept .0, first .put-skip .ensures .end, first .put-skip .kept .0, skip-most (c .before .before .before .before .before .before .before .before .before .before .before .args .start .skip)), omega arith, c .before .before .before .before .before .before .before .before .before .before .before .pre .2 (c .before .before .before .before .before .if1 .taken))
+    let s = c .before .before .before .before .before .before .before .before .before .before .before in
+    let a = s .args in
+    (omega (arith, c .before .before .before .put-either .ensures .end, c .before .before .before .put-either .kept .0, c .before .before .before .before .before .before .before .before .put-skip .ensures .end, c .before .before .before .before .before .before .before .before .put-skip .kept .0, length-append (skipRows (a .start .skip)) (sequenceRows (a .digits) (a .start)), sequence-length (a .digits) (a .start) ∙ ap (λ x. cond x (1 + a .digits) 0) (c .before .before .before .before .before .if1 .taken), s .pre .0), s .pre .1 (c .before .before .before .before .before .if1 .taken))
 
 same-length : tie.Need-same-length
 same-length c = search needs

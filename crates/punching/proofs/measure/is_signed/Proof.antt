@@ -1,8 +1,8 @@
--- `punching::compose::is_signed`: by the mark; a sign may stand in either edition.
+-- `punching::measure::is_signed`: by the mark; a sign may stand in either edition.
 use borrow.Author.Needs.{needs}
 use Rattle.words.proofs.Signs.{stands}
-use Rattle.punching.proofs.compose.is_signed.Statement.{statement}
-use Rattle.punching.proofs.compose.is_signed.Tie as tie
+use Rattle.punching.proofs.measure.is_signed.Statement.{statement}
+use Rattle.punching.proofs.measure.is_signed.Tie as tie
 
 enum-told : tie.Need-enum-told
 enum-told c = search needs

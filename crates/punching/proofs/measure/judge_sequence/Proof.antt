@@ -1,12 +1,11 @@
--- `punching::compose::judge_sequence`: a number by its size, and a missing one by what stands for it.
+-- `punching::measure::judge_sequence`: a number by its size, and a missing one by what stands for it.
 use mathlib.Core.Path.{_≡_}
-use mathlib.Core.Bool.{false}
 use lib.ListN.{length, length-map}
 use borrow.Author.Tests.{lt-ltb, le-ltb}
 use Rattle.punching.proofs.WholeRecords.{count-said}
 use borrow.Author.Needs.{needs}
-use Rattle.punching.proofs.compose.judge_sequence.Statement.{statement}
-use Rattle.punching.proofs.compose.judge_sequence.Tie as tie
+use Rattle.punching.proofs.measure.judge_sequence.Statement.{statement}
+use Rattle.punching.proofs.measure.judge_sequence.Tie as tie
 
 long : (c : tie.Start) → length (c .args .block .words) ≡ 22
 long c = simp length-map at (c .good .1 .0 .1 .1 .1 .1 .1 .1 .1 .0 .1 .0 .1)

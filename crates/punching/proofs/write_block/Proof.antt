@@ -1,0 +1,50 @@
+-- `punching::write_block`: by what the shorthand and the profile answered.
+use mathlib.Core.Path.{_∙_, sym, ap}
+use denote.Ref.{now}
+use Rattle.rows.specs.Answer.{told}
+use Rattle.reading.proofs.Numbered.{settled-facts}
+use Rattle.punching.specs.Answers.{writtenFor, blockWritten}
+use Rattle.punching.proofs.WholeRecords.{leaves, under, under-refused}
+use borrow.Author.Needs.{needs}
+use Rattle.punching.proofs.write_block.Statement.{statement}
+use Rattle.punching.proofs.write_block.Tie as tie
+
+parse-requires : tie.Need-parse-requires
+parse-requires c κs = search needs
+
+enum-told : tie.Need-enum-told
+enum-told c = search needs
+
+write-under-requires : tie.Need-write-under-requires
+write-under-requires c κs = settled-facts _ _ _ _ (c .before .before .before .before .parse .ensures .1) (sym (c .before .before .before .before .parse .ensures .0) ∙ ap told (c .before .enum-told .given .1))
+
+enum-known-outcome : tie.Need-enum-known-outcome
+enum-known-outcome c = search needs
+
+same-length : tie.Need-same-length
+same-length c = search needs
+
+returns : tie.Need-returns
+unfolding blockWritten
+returns c =
+    let a = c .before .before .before .before .before .before .before .before .before .before .before .args in
+    let p = c .before .before .before .before .before .before .before .parse .ensures in
+    rw (under (λ f. writtenFor f (a .block) (now (a .buffer))) (a .edition) (now (a .text)) (now (a .profile)) _ (p .1) (sym (p .0) ∙ ap told (c .before .before .before .before .enum-told .given .1))) (c .before .before .write-under .ensures)
+
+returns-2 : tie.Need-returns-2
+unfolding blockWritten
+returns-2 c =
+    let a = c .before .before .before .before .before .before .before .before .args in
+    leaves (now (a .buffer)) _ _ _ (under-refused (λ f. writtenFor f (a .block) (now (a .buffer))) (a .edition) (now (a .text)) (now (a .profile)) _ _ (sym (c .before .before .before .before .parse .ensures .0) ∙ ap told (c .before .outcome .given .1)))
+
+pub write-block-spec : {M : Type 1} → statement M
+write-block-spec =
+    tie.close
+    (tie.spec
+    parse-requires
+    enum-told
+    write-under-requires
+    enum-known-outcome
+    same-length
+    returns
+    returns-2)
