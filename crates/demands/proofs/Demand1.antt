@@ -31,12 +31,15 @@ use Rattle.words.specs.declared.Word.{Word}
 use Rattle.reading.specs.Record.{startOf, isEmpty, wordsOf}
 use Rattle.reading.specs.Parse.{Entry}
 use Rattle.reading.specs.Answers.{nth, programAt, read, readUnder, entryNumbered, counted, blockNumbered, rowsNumbered}
-use Rattle.punching.specs.Answers.{headPunched, blockFor, blockPunched, after}
-use Rattle.punching.proofs.Records.{Fault, WordRefusal}
+use Rattle.punching.specs.Rows.{rowsOf}
+use Rattle.punching.specs.Fits.{recordFits}
+use Rattle.punching.specs.Answers.{headPunched, measuredFor, measured, blockWritten, blockFor, blockPunched, after}
+use Rattle.punching.proofs.Records.{Fault, WordRefusal, record-refused}
 use Rattle.punching.proofs.Refusals.{Barred, refused-only}
+use Rattle.punching.proofs.Measures.{written-as-punched}
 use Rattle.places.proofs.RefusedRows.{refused-rows}
 use Rattle.places.proofs.Exactly.{refusal-read}
-use Rattle.demands.specs.Tables.{rows, program, Reading, Fetching, unread, past, Needed, by-format, by-alignment, no-word, Punching, Heading, Speaking, Coding}
+use Rattle.demands.specs.Tables.{rows, program, Reading, Fetching, unread, past, Needed, by-format, by-alignment, no-word, Measuring, Punching, Heading, Speaking, Coding}
 
 -- an answer, whatever was handed over: something taken, or a refusal of the table
 abbrev pub Answered : {A : Type 0} → (ℕ → ℕ → Type 0) → Answer A → Type 0
@@ -99,11 +102,14 @@ needed {f} {b} n h = by (f .unnumbered) refl (b .alignment) refl (wordsOf b) ref
     by true p false q [] r h = no-word r
     by true p false q (w ∷ ws) r h = absurd (false≢true (sym h))
 
+of-fault : {e : ℕ} {f : Format} {s p : List ℕ} (b : Block) → Settled e s p f → {n k : ℕ} → Fault f b n k → Measuring e s p b n k
+of-fault b q (Fault.crowded h) = Measuring.crowded h
+of-fault b q (Fault.too-large c n h) = Measuring.too-large q n h
+of-fault b q (Fault.missing c n h) = Measuring.missing q n (needed n h)
+of-fault b q (Fault.at-word {n = n} c w i h) = let k = word-numbers n w in Measuring.word (k .0) (k .1) i h
+
 of-barred : {e : ℕ} {f : Format} {s p : List ℕ} (b : Block) (buffer : List ℕ) → Settled e s p f → {n k : ℕ} → Barred f b buffer n k → Punching e s p b buffer n k
-of-barred b buffer q (inl (Fault.crowded h)) = Punching.crowded h
-of-barred b buffer q (inl (Fault.too-large c n h)) = Punching.too-large q n h
-of-barred b buffer q (inl (Fault.missing c n h)) = Punching.missing q n (needed n h)
-of-barred b buffer q (inl (Fault.at-word {n = n} c w i h)) = let k = word-numbers n w in Punching.word (k .0) (k .1) i h
+of-barred b buffer q (inl h) = Punching.unmeasured (of-fault b q h)
 of-barred b buffer q (inr h) = rw (h .0, h .1) (Punching.full q (rw (h .1) at (h .2)))
 
 -- "Every tape image, shorthand and block record", and every profile, "gets an answer, and the work ends. What can't be taken is refused by a number
@@ -141,8 +147,23 @@ module _ (e : ℕ) (s p : List ℕ) where
       under f q (refused n k) w = refusal (of-barred b buffer q (refused-only f b buffer n k w))
 
       by : {a : Answer Format} → Holds (Unsettled e s p) (λ f. Settled e s p f) a → Answered (Punching e s p b buffer) (a >>= λ f. blockFor f b buffer)
-      by (refusal h) = refusal (Punching.settling h)
+      by (refusal h) = refusal (Punching.unmeasured (Measuring.settling h))
       by (value {a = f} q) = under f q (blockFor f b buffer) refl
+
+  pub measuring-answered : (b : Block) → Answered (Measuring e s p b) (measured e s p b)
+  unfolding measured measuredFor
+  measuring-answered b = by (settled-answered e s p)
+    where
+      under : (f : Format) → Settled e s p f → (a : Answer (Unit {0})) → recordFits f b ≡ a → Answered (Measuring e s p b) (a >> taken (length (rowsOf f b)))
+      under f q (taken u) w = value tt
+      under f q (refused n k) w = refusal (of-fault b q (record-refused f b n k w))
+
+      by : {a : Answer Format} → Holds (Unsettled e s p) (λ f. Settled e s p f) a → Answered (Measuring e s p b) (a >>= λ f. recordFits f b >> taken (length (rowsOf f b)))
+      by (refusal h) = refusal (Measuring.settling h)
+      by (value {a = f} q) = under f q (recordFits f b) refl
+
+  pub writing-answered : (b : Block) (buffer : List ℕ) → Answered (Punching e s p b buffer) (blockWritten e s p b buffer)
+  writing-answered b buffer = rw (written-as-punched e s p b buffer) (punching-answered b buffer)
 
 pub head-answered : (buffer : List ℕ) → Answered (Heading buffer) (headPunched buffer)
 head-answered buffer = holds-cond (leb 2 (length buffer)) (λ l. value tt) (λ l. refusal (Heading.full (leb-false 2 (length buffer) l)))

@@ -12,9 +12,10 @@ use Rattle.speeds.specs.Coding.{speedTold, codeTold}
 use Rattle.reading.specs.declared.Counted.{Counted}
 use Rattle.reading.specs.declared.Counted.the-variants.{Blocks}
 use Rattle.reading.specs.Answers.{countTold}
+use Rattle.punching.specs.declared.Measured.{Measured}
 use Rattle.punching.specs.declared.Punched.{Punched}
 use Rattle.punching.specs.declared.Punched.the-variants.{Rows}
-use Rattle.punching.specs.Answers.{punchedTold}
+use Rattle.punching.specs.Answers.{measuredTold, punchedTold}
 
 pub one-check : (r q : Checked) → told r ≡ told q → r ≡ q
 one-check r q = one told (λ u. Clean) Refused (case r) (case q)
@@ -50,3 +51,10 @@ one-punching r q = one punchedTold Rows Punched.Refused (case r) (case q)
     case : (r : Punched) → Case punchedTold Rows Punched.Refused r
     case (Rows n) = takes n refl
     case (Punched.Refused r) = refuses r refl
+
+pub one-measure : (r q : Measured) → measuredTold r ≡ measuredTold q → r ≡ q
+one-measure r q = one measuredTold Measured.Rows Measured.Refused (case r) (case q)
+  where
+    case : (r : Measured) → Case measuredTold Measured.Rows Measured.Refused r
+    case (Measured.Rows n) = takes n refl
+    case (Measured.Refused r) = refuses r refl

@@ -1,4 +1,4 @@
--- The table of refusals as relations: each number with its place and what calls for it (documents 01, "Refusal numbers", and 02, 5/12).
+-- The table of refusals as relations: each number with its place and what calls for it (documents 01, "Refusal numbers", and 02, 5/12 and 6/12).
 use Prim.Native.Nat.{ℕ, _^_, _≤_, _<_}
 use mathlib.Core.Path.{_≡_}
 use mathlib.Core.Bool.{true, false}
@@ -35,13 +35,17 @@ pub data Needed (f : Format) (b : Block) : Type 0 where
   by-alignment : b .alignment ≡ true → Needed f b
   no-word : wordsOf b ≡ [] → Needed f b
 
--- 1 to 3, 22 and 23, and 16 to 19 of a record that is punched into a buffer
+-- 1 to 3, 22 and 23, and 16 to 18 of a record that is measured
+pub data Measuring (e : ℕ) (s p : List ℕ) (b : Block) : ℕ → ℕ → Type 0 where
+  settling : {n k : ℕ} → Unsettled e s p n k → Measuring e s p b n k
+  crowded : 22 < b .count → Measuring e s p b 16 23
+  too-large : {f : Format} → Settled e s p f → b .numbered ≡ true → 10 ^ f .sequence ≤ b .sequence → Measuring e s p b 17 0
+  missing : {f : Format} → Settled e s p f → b .numbered ≡ false → Needed f b → Measuring e s p b 16 0
+  word : {n k : ℕ} → 16 ≤ n → n ≤ 18 → 1 ≤ k → k ≤ b .count → Measuring e s p b n k
+
+-- the same, and 19 at the rows needed, of one that is written or punched into a buffer
 pub data Punching (e : ℕ) (s p : List ℕ) (b : Block) (buffer : List ℕ) : ℕ → ℕ → Type 0 where
-  settling : {n k : ℕ} → Unsettled e s p n k → Punching e s p b buffer n k
-  crowded : 22 < b .count → Punching e s p b buffer 16 23
-  too-large : {f : Format} → Settled e s p f → b .numbered ≡ true → 10 ^ f .sequence ≤ b .sequence → Punching e s p b buffer 17 0
-  missing : {f : Format} → Settled e s p f → b .numbered ≡ false → Needed f b → Punching e s p b buffer 16 0
-  word : {n k : ℕ} → 16 ≤ n → n ≤ 18 → 1 ≤ k → k ≤ b .count → Punching e s p b buffer n k
+  unmeasured : {n k : ℕ} → Measuring e s p b n k → Punching e s p b buffer n k
   full : {f : Format} → Settled e s p f → length buffer < length (rowsOf f b) → Punching e s p b buffer 19 (length (rowsOf f b))
 
 -- the head: 19 at its two rows
