@@ -71,6 +71,8 @@ fn answer_punching(
     match letter {
         b'H' => punch_cases::head(asked, buffer, out, at),
         b'J' => punch_cases::record(asked, buffer, out, at),
+        b'U' => punch_cases::measure(asked, out, at),
+        b'V' => punch_cases::write(asked, buffer, out, at),
         b'D' => punch_cases::again(asked, tape, buffer, out, at),
         b'Q' => punch_cases::round(asked, tape, buffer, out, at),
         b'A' => punch_cases::magnitude(asked, out, at),

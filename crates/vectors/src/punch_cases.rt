@@ -20,6 +20,7 @@ use crate::asked::shorthand_of;
 use crate::block_cases::count_under;
 use crate::block_cases::read_under;
 use crate::records::record_of;
+use punching::Measured;
 use punching::Punched;
 use reading::Block;
 use rows::Checked;
@@ -43,6 +44,31 @@ pub fn head(asked: &[u8], buffer: &mut [u8], out: &mut [u8], at: usize) -> usize
     let room = room_in(buffer, asked);
     fill(&mut buffer[0..room], number(rest(asked)), 1);
     let answer = punching::punch_head(&mut buffer[0..room]);
+    put_punched(out, at, answer, &buffer[0..room])
+}
+
+// U: how many rows a record needs.
+pub fn measure(asked: &[u8], out: &mut [u8], at: usize) -> usize {
+    let block = record_of(behind_profile(asked));
+    match punching::measure_block(narrow(asked), shorthand_of(asked), profile_of(asked), block) {
+        Measured::Rows(n) => put_value(out, at, n as u64),
+        Measured::Refused(r) => put_refused(out, at, r),
+    }
+}
+
+// V: a record written.
+pub fn write(asked: &[u8], buffer: &mut [u8], out: &mut [u8], at: usize) -> usize {
+    let lent = behind_profile(asked);
+    let first = rest(lent);
+    let room = room_in(buffer, lent);
+    fill(&mut buffer[0..room], number(first), 1);
+    let answer = punching::write_block(
+        narrow(asked),
+        shorthand_of(asked),
+        profile_of(asked),
+        record_of(rest(first)),
+        &mut buffer[0..room],
+    );
     put_punched(out, at, answer, &buffer[0..room])
 }
 
