@@ -48,6 +48,11 @@ pub fn count_blocks(specification: &Specification, tape: &[u8]) -> Result<u64, R
     Ok(count.blocks)
 }
 
+/// How many rows the block of `record` has by `specification`.
+pub fn measure_block(specification: &Specification, record: &punching::Record) -> Result<u64, Refusal> {
+    punching::measure_block(&specification.format()?, record)
+}
+
 /// Punches the block of `record` into `buffer` by `specification`, and answers how many rows it has.
 pub fn punch_block(specification: &Specification, record: &punching::Record, buffer: &mut [u8]) -> Result<u64, Refusal> {
     punching::punch_block(&specification.format()?, record, buffer)

@@ -40,6 +40,11 @@ pub fn punch_head(buffer: &mut [u8]) -> Result<u64, Refusal> {
     put(buffer, &[punched(b'%'), punched(LF)])
 }
 
+/// How many rows the block of `record` has.
+pub fn measure_block(format: &Format, record: &Record) -> Result<u64, Refusal> {
+    block(format, record).map(|characters| characters.len() as u64)
+}
+
 /// Writes the block of `record` into the first rows of `buffer` and answers how many they are.
 pub fn punch_block(format: &Format, record: &Record, buffer: &mut [u8]) -> Result<u64, Refusal> {
     let characters = block(format, record)?;

@@ -12,7 +12,7 @@ use crate::rows::{punched, CR, DEL, HT, LF, NUL};
 use crate::shorthand::{parse, Dropped, Format, Item, Kind, Layout, Mark};
 use crate::specification::Specification;
 use crate::speeds::{code_of, exact_code, speed_of, Speed};
-use crate::{count_blocks, punch_block, Refusal};
+use crate::{count_blocks, measure_block, punch_block, Refusal};
 use std::fmt;
 
 /// A longer line is not asked.
@@ -70,6 +70,10 @@ pub enum Line {
     Rows(Nth),
     /// J: a record punched
     Punch(Box<Handed>),
+    /// U: the rows that a record needs
+    Measure(Box<Handed>),
+    /// V: a record's rows written
+    Write(Box<Handed>),
     /// a line that is spelt as it would not be by itself
     Spelt(&'static str, Box<Line>),
     /// a line that asks nothing
@@ -140,10 +144,9 @@ impl Line {
             }
             Line::Block(nth) => nth.text('W'),
             Line::Rows(nth) => nth.text('P'),
-            Line::Punch(handed) => {
-                let Handed { specification, room, first, record } = &**handed;
-                judged('J', specification, &format!("{room} {first} {}", record_text(record)))
-            }
+            Line::Punch(handed) => handed.text('J'),
+            Line::Measure(handed) => judged('U', &handed.specification, &record_text(&handed.record)),
+            Line::Write(handed) => handed.text('V'),
             Line::Spelt(text, _) => text.as_bytes().to_vec(),
             Line::Remark(text) => text.clone(),
         }
@@ -174,12 +177,18 @@ impl Line {
                 let rows = specification.format().and_then(|format| block_rows(&format, tape, *n));
                 handed_back(rows, &[], rows_text)
             }
-            Line::Punch(handed) => {
+            // the rules have one answer for a block that is punched and one that is written
+            Line::Punch(handed) | Line::Write(handed) => {
                 let Handed { specification, room, first, record } = &**handed;
                 let mut buffer = lent(*room, *first);
                 let count = punch_block(specification, record, &mut buffer);
                 let unnumbered = !record.opening.numbered;
                 Reply { unnumbered, ..handed_back(count, 0, |count| buffer_text(count, &buffer)) }
+            }
+            Line::Measure(handed) => {
+                let unnumbered = !handed.record.opening.numbered;
+                let count = measure_block(&handed.specification, &handed.record);
+                Reply { unnumbered, ..handed_back(count, 0, |count| count.to_string()) }
             }
             Line::Spelt(_, line) => return line.answer(),
             Line::Remark(_) => return None,
@@ -190,6 +199,13 @@ impl Line {
 impl Nth {
     fn text(&self, letter: char) -> Vec<u8> {
         judged(letter, &self.specification, &format!("{} {}", self.n, asked(&self.tape)))
+    }
+}
+
+impl Handed {
+    fn text(&self, letter: char) -> Vec<u8> {
+        let Handed { specification, room, first, record } = self;
+        judged(letter, specification, &format!("{room} {first} {}", record_text(record)))
     }
 }
 
@@ -354,6 +370,17 @@ fn punching((mut handed, known): (Handed, records::Known)) -> Posed {
     make_sayable(&mut handed.specification);
     let known = known.map(|known| known.map_or_else(told, |_| (0, 0)));
     Posed { line: Line::Punch(Box::new(handed)), known }
+}
+
+/// `size` records, each measured and then written. A buffer that is too small is nothing to the measure.
+pub fn measurings(seed: u64, size: usize) -> Vec<Posed> {
+    punchings(seed, size).into_iter().flat_map(|Posed { line, known }| measuring(line, known)).collect()
+}
+
+fn measuring(line: Line, known: Option<(u64, u64)>) -> [Posed; 2] {
+    let Line::Punch(handed) = line else { unreachable!("records are punched") };
+    let measured = known.map(|known| if known.0 == 19 { (0, 0) } else { known });
+    [Posed { line: Line::Measure(handed.clone()), known: measured }, Posed { line: Line::Write(handed), known }]
 }
 
 /// Number and place, as an answer begins with them.
@@ -638,6 +665,35 @@ mod tests {
         let record = Record::from(&Block { opening: Opening::numbered(2), words: vec![(b'X', Value::Dimension(0))] });
         let handed = Handed { specification, room: 14, first: 0, record };
         assert_eq!(written(Line::Punch(Box::new(handed))), format!("J {asked} 14 0 - N 2 1 XD0 -> 0 0 14 N002^^+000000~"));
+    }
+
+    #[test]
+    fn measures_and_writings() {
+        let handed = |room: usize| match punching(room, 7, &[(b'X', Value::Dimension(-250))]) {
+            Line::Punch(handed) => handed,
+            _ => unreachable!(),
+        };
+        let record = "- : 7 1 XD-250";
+        let line = ":007^^X-000250~";
+        assert_eq!(written(Line::Measure(handed(3))), format!("U 1057 {PLAIN} {record} -> 0 0 15"));
+        assert_eq!(written(Line::Write(handed(15))), format!("V 1057 {PLAIN} 15 254 {record} -> 0 0 15 {line}"));
+        assert_eq!(written(Line::Write(handed(0))), format!("V 1057 {PLAIN} 0 254 {record} -> 19 15 0"));
+    }
+
+    /// Where a record is measured, the rows are as many as are written, and as 19 asks for; where it is refused, both are.
+    #[test]
+    fn measured_as_written() {
+        for Posed { line, .. } in punchings(6, 3_000) {
+            let Line::Punch(handed) = line else { unreachable!() };
+            let Handed { specification, room, first, record } = &*handed;
+            let mut buffer = lent(*room, *first);
+            let written = punch_block(specification, record, &mut buffer);
+            match measure_block(specification, record) {
+                Ok(rows) if rows <= *room as u64 => assert_eq!(written, Ok(rows)),
+                Ok(rows) => assert_eq!(written, Err(Refusal::new(19, rows as usize))),
+                refused => assert_eq!(written, refused),
+            }
+        }
     }
 
     #[test]

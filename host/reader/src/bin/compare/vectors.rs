@@ -13,6 +13,8 @@ const BATCH: usize = 10_000;
 const LEAST: &[(u8, &[usize], u64)] = &[
     (b'J', &[0, 1, 2, 3, 16, 17, 18, 19], 500),
     (b'J', &[22, 23], 200),
+    (b'U', &[0, 1, 2, 3, 16, 17, 18], 100),
+    (b'V', &[0, 1, 2, 3, 16, 17, 18, 19], 100),
     (b'W', &[0, 15], 100),
     (b'P', &[0, 15], 100),
     (b'F', &[0, 1, 2, 3], 100),
@@ -24,7 +26,7 @@ const LEAST: &[(u8, &[usize], u64)] = &[
 /// The same of lines that say or answer stop or rapid.
 const LEAST_NAMED: &[(u8, &[usize], u64)] = &[(b'J', &[0, 18], 100), (b'W', &[0], 10)];
 /// The same of records without number, with those 16 alone that are at 0.
-const LEAST_UNNUMBERED: &[(u8, &[usize], u64)] = &[(b'J', &[0, 16], 200), (b'J', &[17, 18, 19], 100), (b'W', &[0], 20)];
+const LEAST_UNNUMBERED: &[(u8, &[usize], u64)] = &[(b'J', &[0, 16], 200), (b'J', &[17, 18, 19], 100), (b'U', &[0, 16], 40), (b'W', &[0], 20)];
 
 pub fn compare(order: &Order) -> Result<bool, Box<dyn Error>> {
     let batches = batches(order.inputs);
@@ -47,6 +49,7 @@ fn batches(records: usize) -> Vec<Batch<'static, Posed>> {
         vec![Box::new(|_| lines::edges()), Box::new(move |seed| lines::numbers(seed, records / 5))];
     for (make, size) in [
         (lines::punchings as fn(u64, usize) -> Vec<Posed>, records),
+        (lines::measurings, records / 5),
         (lines::tapes, records / 5),
         (lines::formats, records / 10),
         (lines::agreements, records / 10),
