@@ -2,7 +2,7 @@
 use mathlib.Core.Path.{_≡_, _∙_, sym, ap}
 use native.Mathlib.Omega.{arith}
 use denote.Ref.{now}
-use lib.ListN.{length, take}
+use lib.ListN.{length, take, length-take}
 use lib.Seq.{length-take-le}
 use Rattle.rows.specs.Answer.{taken}
 use Rattle.punching.specs.Answers.{measuredFor, measuredTold}
@@ -38,7 +38,7 @@ room : (c : tie.Else1) → length (take (c .before .before .n .given .0 .0) (now
 room c = length-take-le _ _ (c .if1 .left)
 
 slice-aggregate-compose-block : tie.Need-slice-aggregate-compose-block
-slice-aggregate-compose-block c = omega (arith, room (c .before))
+slice-aggregate-compose-block c = simp length-take (omega arith)
 
 compose-block-requires : tie.Need-compose-block-requires
 compose-block-requires c κs =
