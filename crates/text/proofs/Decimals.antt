@@ -12,8 +12,8 @@ use borrow.Author.Tests.{lt-ltb, le-ltb}
 use Rattle.speeds.proofs.Tens.{ten-positive, ten-grows}
 use Rattle.io.specs.Digits.{glyph, digits, Fewest}
 use Rattle.reading.specs.Relation.{zeros}
+use Rattle.punching.proofs.DigitTurns.{sets-last}
 use Rattle.text.specs.Text.{decimalIn, decimal, full}
-use Rattle.text.proofs.Puts.{sets-last}
 
 glyph-digit : (v : ℕ) → glyph (v % 10) ≡ 48 + v % 10
 glyph-digit v = rw (lt-ltb (v % 10) 10 (omega arith))

@@ -6,19 +6,12 @@ use mathlib.Core.Bool.{Bool, true, false, cond}
 use native.Mathlib.Nat.{add-suc, suc-add, add-zero, le-refl}
 use native.Mathlib.Omega.{arith}
 use lib.ListN.{length, set, length-append}
-use lib.Seq.{sets, length-sets, set-comm}
+use lib.Seq.{sets, length-sets}
 use Rattle.text.specs.Line.{Put}
 
 pub sets-append : (xs ys l : List ℕ) (i : ℕ) → sets l i (xs ++ ys) ≡ sets (sets l i xs) (i + length xs) ys
 sets-append [] ys l i = ap (λ k. sets l k ys) (sym (add-zero i))
 sets-append (x ∷ xs) ys l i = sets-append xs ys (set l i x) (suc i) ∙ ap (λ k. sets (sets (set l i x) (suc i) xs) k ys) (suc-add i (length xs) ∙ sym (add-suc i (length xs)))
-
--- the last byte may be put before the others
-pub sets-last : (xs l : List ℕ) (i d : ℕ) → sets l i (xs ++ (d ∷ [])) ≡ sets (set l (i + length xs) d) i xs
-sets-last [] l i d = ap (λ k. set l k d) (sym (add-zero i))
-sets-last (x ∷ xs) l i d =
-    let e : suc i + length xs ≡ i + suc (length xs) = omega arith in
-    sets-last xs (set l i x) (suc i) d ∙ ap (λ k. sets k (suc i) xs) (rw e (set-comm l i (i + suc (length xs)) x d (λ g. omega arith)))
 
 pub put-none : (l : List ℕ) (at : ℕ) → Put l at [] l at
 put-none l at = record { end = omega arith; bytes = refl }
