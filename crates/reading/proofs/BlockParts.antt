@@ -51,7 +51,7 @@ pub record Ending (p : ℕ) (s : List KeptRow) : Type 0 where
   pub rows : s ≡ front ++ (row ∷ [])
   pub place : row .place ≡ p
 
-ending : {p : ℕ} {s : List KeptRow} → Last p s → Ending p s
+pub ending : {p : ℕ} {s : List KeptRow} → Last p s → Ending p s
 ending (last {r = r} e) = record { front = []; row = r; rows = refl; place = e }
 ending (before {r = r} h) = let k = ending h in record { front = r ∷ k .front; row = k .row; rows = ap (λ l. r ∷ l) (k .rows); place = k .place }
 

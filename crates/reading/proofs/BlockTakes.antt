@@ -1,4 +1,4 @@
--- An end and a block that stand as a Format allows are read.
+-- An end, a head and a block that stand as a Format allows are read.
 use Prim.Native.Nat.{ℕ, _^_, _<_}
 use mathlib.Core.Path.{_≡_, refl, ap, _∙_}
 use mathlib.Core.Bool.{Bool, true, false, _||_, cond}
@@ -14,7 +14,7 @@ use Rattle.reading.specs.declared.Block.{Block}
 use Rattle.reading.specs.Relation.{digits, End, lf, cr-lf, startRows, Start, counted, bare, Blocked, block, chars}
 use Rattle.words.specs.declared.Wanted.{Wanted}
 use Rattle.words.specs.Figures.{fronts, behind, isDigit}
-use Rattle.parts.specs.Ends.{ended}
+use Rattle.parts.specs.Ends.{ended, headAt}
 use Rattle.parts.specs.declared.Begun.{Begun}
 use Rattle.parts.specs.Starts.{unnumbered, numberAt, startAt}
 use Rattle.parts.specs.Items.{bareIn}
@@ -34,6 +34,13 @@ end-takes cr-lf len w (r ∷ (l ∷ rs)) u q =
     let c : r .char ≡ 13 = cc in
     let d : l .char ≡ 10 = cc in
     (l .place, record { rest = rs; takes = rw (c, d); leaves = cc })
+
+-- "%" and an end, and the place of its LF
+pub head-takes : {e : List ℕ} → End e → (len : ℕ) (rs : List KeptRow) (u : List ℕ) → chars rs ≡ 37 ∷ (e ++ u) → (place : ℕ) × Takes (headAt len rs) place u
+unfolding headAt
+head-takes h len rs u q =
+    let t = end-takes h len Wanted.Head (behind rs) u (behind-chars 37 _ rs q) in
+    (t .0, record { rest = t .1 .rest; takes = rw (fronts-heads 37 rs, q, t .1 .takes); leaves = t .1 .leaves })
 
 -- N or ":"
 marked : (alignment : Bool) (rs : List KeptRow) (x : List ℕ) → chars rs ≡ cond alignment 58 78 ∷ x

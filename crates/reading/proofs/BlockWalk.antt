@@ -89,10 +89,6 @@ head-advances t lf rest e =
     (k .1, rw (add-one lf) (k .2))
 
 module _ (len : ℕ) (f : Format) (rs : List KeptRow) where
-  pub program-refused : (n p : ℕ) → headAt len rs ≡ refused n p → programAt len f rs ≡ refused n p
-  unfolding programAt
-  program-refused n p e = rw e
-
   pub program-blocks : (lf : ℕ) (rest : List KeptRow) → headAt len rs ≡ taking lf rest → programAt len f rs ≡ blocksAt (length rest) len f (lf + 1) rest
   unfolding programAt
   program-blocks lf rest e = rw e
@@ -100,10 +96,6 @@ module _ (len : ℕ) (f : Format) (rs : List KeptRow) where
 -- ---- the first three stages before the fourth
 
 module _ (f : Format) (t : List ℕ) where
-  pub read-refused : (n p : ℕ) → judged t ≡ refused n p → read f t ≡ refused n p
-  unfolding read
-  read-refused n p e = rw e
-
   pub read-clean : judged t ≡ taken tt → read f t ≡ programAt (length t) f (kept t)
   unfolding read
   read-clean e = rw e

@@ -10,13 +10,10 @@ use Rattle.shorthand.specs.declared.Format.{Format}
 use Rattle.shorthand.specs.Facts.{Facts}
 use Rattle.reading.specs.declared.Block.{Block}
 use Rattle.reading.specs.Relation.{Blocks, none, more, Program, program, chars}
-use Rattle.words.specs.declared.Wanted.{Wanted}
-use Rattle.words.specs.Figures.{behind}
 use Rattle.reading.specs.Parse.{Entry, entry, blockAt, blocksAt}
-use Rattle.parts.specs.Ends.{headAt}
 use Rattle.reading.specs.Answers.{programAt}
-use Rattle.reading.proofs.RowsAhead.{fronts-heads, behind-chars, Takes}
-use Rattle.reading.proofs.BlockTakes.{end-takes, block-takes, block-some}
+use Rattle.reading.proofs.RowsAhead.{Takes}
+use Rattle.reading.proofs.BlockTakes.{head-takes, block-takes, block-some}
 
 -- entries of the blocks bs are the answer
 abbrev Entries : Answer (List Entry) → List Block → Type 0
@@ -51,10 +48,10 @@ module _ (f : Format) (facts : Facts f) (len : ℕ) where
       next-block k from rs b bs (t .0) s few (omega arith) (t .1) n (λ j to rs′ h l. blocks-take q j to rs′ h l)
 
   program-takes : {bs : List Block} {x : List ℕ} → Program f bs x → (rs : List KeptRow) → chars rs ≡ x → Entries (programAt len f rs) bs
-  unfolding programAt headAt
+  unfolding programAt
   program-takes (program {bs} {e} {r} end q) rs h =
-      let t = end-takes end len Wanted.Head (behind rs) r (behind-chars 37 (e ++ r) rs h) in
-      rw (fronts-heads 37 rs, h, t .1 .takes) (blocks-take q (length (t .1 .rest)) (t .0 + 1) (t .1 .rest) (t .1 .leaves) (omega arith))
+      let t = head-takes end len rs r h in
+      rw (t .1 .takes) (blocks-take q (length (t .1 .rest)) (t .0 + 1) (t .1 .rest) (t .1 .leaves) (omega arith))
 
 pub complete : (f : Format) → Facts f → (bs : List Block) (len : ℕ) (rs : List KeptRow) → Program f bs (chars rs)
     → (es : List Entry) × (programAt len f rs ≡ taken es) × (map (λ e. e .block) es ≡ bs)

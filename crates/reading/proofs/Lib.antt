@@ -22,10 +22,13 @@ pub mod Sound
 -- a program's rows joined, and its characters
 pub mod BlocksJoined
 pub mod BlockParts
+pub mod EntryRows
 pub mod Ranges
 pub mod BareRows
 -- the bridge
 pub mod Programs
+pub mod Accepted
+pub mod Exchanged
 -- for the functions: items, steps, the whole walk
 pub mod ItemSteps
 pub mod DueItems

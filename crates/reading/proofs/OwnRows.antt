@@ -9,7 +9,6 @@ use lib.Dec.{ltb}
 use lib.ListN.{length, getD, List·getD-eq-default}
 use borrow.Author.Tests.{ltb-true, ltb-false}
 use Rattle.rows.specs.Answer.{Answer, taken, refused, valueOr, _>>=_}
-use Rattle.rows.specs.Stages.{judged}
 use Rattle.rows.specs.Kept.{KeptRow, keptAt, kept, firstOf}
 use Rattle.rows.proofs.KeptRows.{next-row}
 use Rattle.shorthand.specs.declared.Format.{Format}
@@ -20,10 +19,11 @@ use Rattle.reading.specs.Answers.{nowhere, read, sizeOf}
 use Rattle.reading.specs.declared.Part.{Part}
 use Rattle.reading.specs.Record.{emptyBlock}
 use Rattle.reading.specs.Front.{blockOnly, partIn, blockIn, hasBlock}
-use Rattle.reading.proofs.BlockWalk.{advances, program-blocks, program-refused, read-clean, read-refused}
+use Rattle.reading.proofs.BlockWalk.{advances, program-blocks}
 use Rattle.reading.proofs.ReadBlocks.{Last, last, before}
 use Rattle.reading.proofs.Sound.{block-rows, head-rows}
-use Rattle.reading.proofs.Places.{rising-at}
+use Rattle.reading.proofs.Places.{places, rising-at}
+use Rattle.reading.proofs.Accepted.{read-taken}
 
 -- ---- the rows behind a block
 
@@ -99,40 +99,39 @@ module _ (f : Format) (t : List ℕ) where
   behind-head es e lf rest h =
       let r = head-rows (length t) (kept t) _ h in
       let same = rows-behind t 0 lf rest (r .stands .to) (r .split) in
-      let blocks = sym (program-blocks (length t) f (kept t) lf rest h) ∙ sym (read-clean f t (clean (judged t) refl)) ∙ e in
+      let blocks = sym (program-blocks (length t) f (kept t) lf rest h) ∙ read-taken f t e .1 in
       record { fuel = length (keptAt t (lf + 1)); enough = le-refl _; come = rw same at blocks }
-    where
-      clean : (a : Answer (Unit {0})) → judged t ≡ a → judged t ≡ taken tt
-      clean (taken x) q = q
-      clean (refused n p) q = let bad = sym (read-refused f t n p q) ∙ e in let z : _≡_ {A = ℕ} 0 1 = cc in absurd (omega arith)
 
   -- ---- block n
 
-  abbrev Own : List Entry → ℕ → Type 0
-  Own es n = blockOnly (blockAt (length t) f (keptAt t (getD es n nowhere .from))) ≡ taken (getD es n nowhere .block)
+  -- read from its own first row, an entry is the same, and behind it stand the rows behind its LF
+  pub record OwnEntry (x : Entry) : Type 0 where
+    pub b : BlockRead
+    pub reads : blockAt (length t) f (keptAt t (x .from)) ≡ taking b (keptAt t (x .to))
+    pub is : entry (x .from) b ≡ x
 
-  own-first : {from : ℕ} {es : List Entry} → First from es → 0 < length es → Own es 0
+  own-first : {from : ℕ} {es : List Entry} → First from es → 0 < length es → OwnEntry (getD es 0 nowhere)
   own-first (nothing q e) l = absurd (not-suc-le-zero (rw e at l))
-  own-first (block r u q b i xs e h) l = rw e (ap blockOnly i)
+  own-first {from} (block r u q b i xs e h) l = rw e (record { b = b .value; reads = i ∙ ap (taking (b .value)) (block-behind from b i); is = refl })
 
-  own-next : (n : ℕ) → ((i : ℕ) (xs : List Entry) → Left i xs → n < length xs → Own xs n) → {from : ℕ} {es : List Entry} → First from es → suc n < length es → Own es (suc n)
+  own-next : (n : ℕ) → ((i : ℕ) (xs : List Entry) → Left i xs → n < length xs → OwnEntry (getD xs n nowhere)) → {from : ℕ} {es : List Entry} → First from es → suc n < length es
+      → OwnEntry (getD es (suc n) nowhere)
   own-next n turn (nothing q e) l = absurd (not-suc-le-zero (rw e at l))
   own-next n turn (block r u q b i xs e h) l = rw e (turn (b .value .lf + 1) xs h (le-of-suc-le-suc (rw e at l)))
 
-  own-left : (n from : ℕ) (es : List Entry) → Left from es → n < length es → Own es n
+  own-left : (n from : ℕ) (es : List Entry) → Left from es → n < length es → OwnEntry (getD es n nowhere)
   own-left zero from es g l = own-first (first from es g) l
   own-left (suc n) from es g l = own-next n (λ i xs. own-left n i xs) (first from es g) l
 
+  -- a block of an accepted tape, its LF and what is behind it are the same read from its own first row
+  pub own-entry : {es : List Entry} → read f t ≡ taken es → (n : ℕ) → n < length es → OwnEntry (getD es n nowhere)
+  own-entry {es} e n l =
+      let p = places f t es (read-taken f t e .1) nowhere in
+      own-left n (p .head .value + 1) es (behind-head es e (p .head .value) (p .head .rest) (p .begins)) l
+
+  -- and so is its record alone
   pub own-block : (es : List Entry) → read f t ≡ taken es → (n : ℕ) → n < length es → blockOnly (blockAt (length t) f (keptAt t (getD es n nowhere .from))) ≡ taken (getD es n nowhere .block)
-  own-block es e n l = by (headAt (length t) (kept t)) refl
-    where
-      by : (a : Answer (Behind ℕ)) → headAt (length t) (kept t) ≡ a → Own es n
-      by (taken h) q = own-left n (h .value + 1) es (behind-head es e (h .value) (h .rest) q) l
-      by (refused m p) q = headless (judged t) refl
-        where
-          headless : (a : Answer (Unit {0})) → judged t ≡ a → Own es n
-          headless (taken x) j = let bad = sym (read-clean f t j ∙ program-refused (length t) f (kept t) m p q) ∙ e in let z : _≡_ {A = ℕ} 0 1 = cc in absurd (omega arith)
-          headless (refused x y) j = let bad = sym (read-refused f t x y j) ∙ e in let z : _≡_ {A = ℕ} 0 1 = cc in absurd (omega arith)
+  own-block es e n l = let o = own-entry e n l in ap blockOnly (o .reads) ∙ ap (λ x. taken (x .block)) (o .is)
 
 -- ---- what is handed back of block n
 

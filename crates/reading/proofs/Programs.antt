@@ -27,7 +27,7 @@ from-taken : {A B : Type 0} (a : Answer A) (f : A → Answer B) (b : B) → (a >
 from-taken (taken x) f b e = (x, refl, e)
 from-taken (refused n p) f b e = let z : _≡_ {A = ℕ} 0 1 = cc in absurd (omega arith)
 
-both-taken : {B : Type 0} (a : Answer (Unit {0})) (b : Answer B) (x : B) → (a >> b) ≡ taken x → (a ≡ taken tt) × (b ≡ taken x)
+pub both-taken : {B : Type 0} (a : Answer (Unit {0})) (b : Answer B) (x : B) → (a >> b) ≡ taken x → (a ≡ taken tt) × (b ≡ taken x)
 both-taken (taken u) b x e = (refl, e)
 both-taken (refused n p) b x e = let z : _≡_ {A = ℕ} 0 1 = cc in absurd (omega arith)
 

@@ -38,7 +38,7 @@ pub data Last (p : ℕ) : List KeptRow → Type 0 where
   last : {r : KeptRow} → r .place ≡ p → Last p (r ∷ [])
   before : {r : KeptRow} {rs : List KeptRow} → Last p rs → Last p (r ∷ rs)
 
-last-after : {p : ℕ} (s u : List KeptRow) → Last p u → Last p (s ++ u)
+pub last-after : {p : ℕ} (s u : List KeptRow) → Last p u → Last p (s ++ u)
 last-after [] u h = h
 last-after (r ∷ s) u h = before (last-after s u h)
 

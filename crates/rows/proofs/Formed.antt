@@ -1,10 +1,12 @@
 -- The scan finds no fault exactly where the control-outs are well formed.
-use mathlib.Core.Path.{_≡_, refl, ap}
+use mathlib.Core.Path.{_≡_, refl, sym, ap, _∙_}
 use mathlib.Core.Bool.{Bool, true, false, _||_, cond}
-use mathlib.Core.List.{List, [], _∷_, _++_}
-use Prim.Native.Nat.{ℕ, suc}
+use mathlib.Core.List.{List, [], _∷_, _++_, append-assoc, append-nil}
+use Prim.Native.Nat.{ℕ, suc, _+_}
+use native.Mathlib.Nat.{add-zero, add-suc, suc-add}
 use native.Mathlib.Omega.{arith}
 use lib.Dec.{eqb}
+use lib.ListN.{length, length-append}
 use borrow.Author.Tests.{eqb-true}
 use Rattle.rows.specs.Row.{character, among}
 use Rattle.rows.specs.Stages.{step, goOn, scan, unclosed}
@@ -28,24 +30,30 @@ never : (p : ℕ) → At p ≡ Nowhere → ⊥
 never p e = let z : _≡_ {A = ℕ} 0 1 = cc in omega arith
 
 -- a remark and the ")" behind it lead outside again
-past-remark : {r : List ℕ} → Remark r → (c : ℕ) → character c ≡ 41 → (t : List ℕ) (o i : ℕ) → (j : ℕ) × (scan (Inside o) i (r ++ (c ∷ t)) ≡ scan Outside j t)
+past-remark : {r : List ℕ} → Remark r → (c : ℕ) → character c ≡ 41 → (t : List ℕ) (o i : ℕ) → scan (Inside o) i (r ++ (c ∷ t)) ≡ scan Outside (i + suc (length r)) t
 unfolding scan
-past-remark empty c e t o i = (suc i, rw e)
-past-remark (more {b = b} h m) c e t o i =
-    let rest = past-remark m c e t o (suc i) in
+past-remark empty c e t o i = rw (e, add-suc, add-zero)
+past-remark (more {b = b} {r = r} h m) c e t o i =
     let p = not-among (character b) 41 (58 ∷ 37 ∷ []) h in
     let q = not-among (character b) 58 (37 ∷ []) (p .1) in
     let s = not-among (character b) 37 [] (q .1) in
-    (rest .0, rw (p .0, q .0, s .0) (rest .1))
+    rw (p .0, q .0, s .0, past-remark m c e t o (suc i), add-suc i (suc (length r)), suc-add)
+
+-- behind control-outs that are well formed the scan finds the faults that it would find alone, at their places
+pub scan-behind : {t : List ℕ} → WellFormed t → (i : ℕ) (u : List ℕ) → scan Outside i (t ++ u) ≡ scan Outside (i + length t) u
+unfolding scan
+scan-behind end i u = rw add-zero
+scan-behind (row {b = b} h w) i u =
+    let p = not-among (character b) 40 (41 ∷ []) h in
+    let q = not-among (character b) 41 [] (p .1) in
+    rw (p .0, q .0, add-suc, ← suc-add) (scan-behind w (suc i) u)
+scan-behind (remark {r = r} {t = t} c e m f w) i u =
+    let n : suc i + suc (length r) + length t ≡ i + suc (length (r ++ (c ∷ t))) = simp length-append (omega arith) in
+    rw (e, append-assoc r (c ∷ t) u, past-remark m c f (t ++ u) i (suc i), ← n) (scan-behind w (suc i + suc (length r)) u)
 
 pub formed-scan : {t : List ℕ} → WellFormed t → (i : ℕ) → scan Outside i t ≡ Nowhere
 unfolding scan
-formed-scan end i = refl
-formed-scan (row {b = b} h w) i =
-    let p = not-among (character b) 40 (41 ∷ []) h in
-    let q = not-among (character b) 41 [] (p .1) in
-    rw (p .0, q .0) (formed-scan w (suc i))
-formed-scan (remark {t = t} c e m f w) i = let rest = past-remark m c f t i (suc i) in rw (e, rest .1) (formed-scan w (rest .0))
+formed-scan {t} w i = ap (scan Outside i) (sym (append-nil t)) ∙ scan-behind w i []
 
 -- what no fault tells on each side
 abbrev Formed : Side → List ℕ → Type 0

@@ -17,3 +17,5 @@ pub mod RowRefusals
 pub mod KeptRows
 pub mod TapesJoined
 pub mod TapeParts
+pub mod FormedBehind
+pub mod Blanks
