@@ -26,7 +26,8 @@ use Rattle.words.specs.Figures.{mayStand}
 use Rattle.punching.specs.Rows.{minus, signRows}
 use Rattle.punching.specs.Fits.{unless, coded, valueFits}
 use Rattle.punching.specs.Line.{dataMeasured}
-use Rattle.punching.proofs.Measures.{never, tested, dataWidth, data-length}
+use Rattle.reading.proofs.Outcomes.{never}
+use Rattle.punching.proofs.Measures.{tested, dataWidth, data-length}
 
 -- what fits is measured to its item's width
 pub data-measured : (i : ℕ) (k : Kind) (v : Value) → valueFits i k v ≡ taken tt → dataMeasured i k v ≡ taken (dataWidth k)

@@ -29,16 +29,13 @@ use Rattle.parts.specs.declared.Begun.{Begun}
 use Rattle.reading.specs.declared.Block.{Block}
 use Rattle.reading.specs.Record.{startOf, wordsOf}
 use Rattle.reading.specs.Relation.{digits, address, tab, skipRows, sequenceRows, startRows}
+use Rattle.reading.proofs.Outcomes.{never}
 use Rattle.reading.proofs.DigitRows.{digits-length}
 use Rattle.punching.specs.Rows.{signRows, codeRows, dataRows, wordRows, blockChars, rowsOf}
 use Rattle.punching.specs.Fits.{Fit, unless, coded, valueFits, sequenceFits, wordsFit, recordFits}
 use Rattle.punching.specs.Answers.{roomFor, measuredFor, measured, writtenFor, blockWritten, blockFor, blockPunched, after}
 
 -- ---- what is judged before it is counted
-
--- nothing is both refused and taken
-pub never : {A B : Type 0} {n p : ℕ} {a : A} → refused n p ≡ taken a → B
-never e = let z : _≡_ {A = ℕ} 0 1 = cc in absurd (omega arith)
 
 -- taken, it was judged fit
 pub judged-fit : {A : Type 0} (a : Fit) (x y : A) → a >> taken x ≡ taken y → (a ≡ taken tt) × (x ≡ y)

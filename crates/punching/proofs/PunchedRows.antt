@@ -1,8 +1,9 @@
 -- The row of each character: punched, characters that stand in a block pass the first three stages and are all kept.
-use Prim.Native.Nat.{ℕ, suc, _≤_, _<_, zero-le}
+use Prim.Native.Nat.{ℕ, suc, _+_, _≤_, _<_, zero-le}
 use mathlib.Core.Path.{_≡_, refl, ap}
 use mathlib.Core.Bool.{Bool, false, _&&_}
 use mathlib.Core.List.{List, [], _∷_, map}
+use native.Mathlib.Nat.{add-zero, add-suc, suc-add}
 use native.Mathlib.Omega.{arith}
 use lib.Count.{ones}
 use lib.Dec.{T, eqb, eqb→eq, ltb, ltb→lt}
@@ -16,6 +17,7 @@ use Rattle.rows.proofs.Formed.{not-among}
 use Rattle.shorthand.proofs.Tests.{first, second, fails}
 use Rattle.reading.specs.Relation.{chars}
 use Rattle.reading.proofs.Ranges.{allFrom, in-range}
+use Rattle.reading.proofs.ReadBlocks.{Last, last, before}
 use Rattle.reading.proofs.BareRows.{bare, Bare}
 use Rattle.punching.specs.Rows.{rowOf}
 
@@ -67,6 +69,16 @@ punched-kept [] all i = refl
 punched-kept (c ∷ cs) all i =
     let s = bare-stays c (all .0) in
     rw (s .punched .same, s .some, s .held, s .unopened) (ap (λ l. c ∷ l) (punched-kept cs (all .1) (suc i)))
+
+-- the last of them at its place
+pub punched-last : (c : ℕ) (cs : List ℕ) → Bare (c ∷ cs) → (i : ℕ) → Last (i + length cs) (keptFrom false i (map rowOf (c ∷ cs)))
+unfolding keptFrom
+punched-last c [] all i =
+    let s = bare-stays c (all .0) in
+    rw (s .punched .same, s .some, s .held, s .unopened, add-zero) (last refl)
+punched-last c (d ∷ cs) all i =
+    let s = bare-stays c (all .0) in
+    rw (s .punched .same, s .some, s .held, s .unopened, add-suc, ← suc-add) (before (punched-last d cs (all .1) (suc i)))
 
 pub punched-even : (cs : List ℕ) → Bare cs → Every (λ b. T (even b)) (map rowOf cs)
 punched-even [] all = tt

@@ -1,34 +1,38 @@
 -- The round trip: a head and blocks punched behind any accepted tape, within the row limit, read back as they were handed in, with unused places cleared.
 use Prim.Native.Nat.{ℕ, _+_, _≤_}
-use mathlib.Core.Path.{_≡_, ap, _∙_}
+use mathlib.Core.Path.{_≡_, refl, ap, _∙_}
+use mathlib.Core.Bool.{false}
 use mathlib.Core.List.{List, [], _∷_, _++_, append-assoc, append-nil, map}
 use native.Mathlib.Omega.{arith}
 use lib.Dec.{lit≤}
 use lib.ListN.{length, length-append, length-map}
 use Rattle.rows.specs.Answer.{taken}
-use Rattle.rows.specs.Kept.{kept}
+use Rattle.rows.specs.Kept.{keptFrom, kept}
 use Rattle.rows.specs.ControlOut.{WellFormed}
 use Rattle.rows.specs.Passes.{Every, Passes}
 use Rattle.rows.specs.Stages.{limit}
 use Rattle.rows.proofs.TapesJoined.{passes-append, kept-append}
 use Rattle.shorthand.specs.declared.Format.{Format}
+use Rattle.shorthand.specs.Layout.{itemsOf, wayOf}
 use Rattle.shorthand.specs.Facts.{Facts}
 use Rattle.profile.specs.Answers.{agreed}
 use Rattle.profile.specs.Relation.{Settled}
 use Rattle.profile.proofs.Settling.{settled-exactly, one-format, settled-facts}
 use Rattle.reading.specs.declared.Block.{Block}
-use Rattle.reading.specs.Relation.{lf, none, more, Program, program, chars, TapeOf}
+use Rattle.reading.specs.Record.{startOf, wordsOf}
+use Rattle.reading.specs.Relation.{startRows, lf, Blocked, none, more, Program, program, chars, TapeOf}
 use Rattle.reading.specs.Parse.{Entry}
 use Rattle.reading.specs.Answers.{readUnder}
 use Rattle.reading.proofs.Outcomes.{chars-append}
 use Rattle.reading.proofs.Programs.{blocksOf, tape-read, read-tape}
-use Rattle.punching.specs.Rows.{rowOf, blockChars, rowsOf, headRows, cleared}
+use Rattle.reading.proofs.ReadBlocks.{Last, Entries}
+use Rattle.punching.specs.Rows.{rowOf, wordRows, blockChars, rowsOf, headRows, cleared}
 use Rattle.punching.specs.Fits.{recordFits}
 use Rattle.punching.specs.Answers.{blockPunched}
 use Rattle.punching.proofs.Records.{punched-stands}
 use Rattle.reading.proofs.BareRows.{Bare, block-bare}
 use Rattle.reading.proofs.BlocksJoined.{program-append}
-use Rattle.punching.proofs.PunchedRows.{punched-kept, punched-pass}
+use Rattle.punching.proofs.PunchedRows.{punched-kept, punched-last, punched-pass}
 use Rattle.punching.proofs.Refusals.{block-written}
 
 -- ---- rows behind a tape
@@ -51,6 +55,24 @@ module _ (f : Format) (facts : Facts f) (b : Block) (fits : recordFits f b ≡ t
 
   pub passes-punched : {t : List ℕ} → Passes t → length (t ++ rowsOf f b) ≤ limit → Passes (t ++ rowsOf f b)
   passes-punched p h = rows-pass p (blockChars f b) punched-bare h
+
+  -- punched from row j on, they are a block that begins at any row i
+  pub punched-entry : (i j : ℕ) → Entries f i (record { block = cleared b; from = i; to = j + length (rowsOf f b) } ∷ []) (keptFrom false j (rowsOf f b))
+  unfolding blockChars
+  punched-entry i j = by (blockChars f b) refl
+    where
+      ends : {p : ℕ} → Last p (keptFrom false j (rowsOf f b)) → p + 1 ≡ j + length (rowsOf f b)
+          → Entries f i (record { block = cleared b; from = i; to = j + length (rowsOf f b) } ∷ []) (keptFrom false j (rowsOf f b))
+      ends {p} l e =
+          let s = keptFrom false j (rowsOf f b) in
+          let stands : Blocked f (cleared b) (chars s) = rw (punched-kept (blockChars f b) punched-bare j) (punched-stands f facts b fits) in
+          let one : Entries f i (record { block = cleared b; from = i; to = p + 1 } ∷ []) (s ++ []) = Entries.more stands l Entries.none in
+          rw (← e) (rw append-nil at one)
+
+      by : (cs : List ℕ) → blockChars f b ≡ cs → Entries f i (record { block = cleared b; from = i; to = j + length (rowsOf f b) } ∷ []) (keptFrom false j (rowsOf f b))
+      by [] e = absurd (omega (arith, ap length e, length-append (startRows (f .sequence) (startOf b)) (wordRows (wayOf f) (itemsOf f) (wordsOf b) ++ (10 ∷ [])), length-append (wordRows (wayOf f) (itemsOf f) (wordsOf b)) (10 ∷ [])))
+      by (c ∷ cs) e =
+          ends {p = j + length cs} (rw e (punched-last c cs (rw e at punched-bare) j)) (rw (length-map (blockChars f b) rowOf, e) (omega arith))
 
   program-punched : {bs : List Block} {t : List ℕ} → WellFormed t → Program f bs (chars (kept t)) → Program f (bs ++ (cleared b ∷ [])) (chars (kept (t ++ rowsOf f b)))
   program-punched w q =

@@ -9,7 +9,7 @@ mod measure;
 
 use compose::compose_block;
 pub use line::magnitude_of;
-use measure::measure_under;
+pub use measure::measure_under;
 use reading::Block;
 use rows::Checked;
 use rows::Refusal;
@@ -50,7 +50,7 @@ pub fn punch_head(buffer: &mut [u8]) -> Punched
 }
 
 // The writer under a Format: it judges for itself, by the one measure, and asks for room before it writes.
-fn write_under(format: Format, block: Block, buffer: &mut [u8]) -> Punched
+pub fn write_under(format: Format, block: Block, buffer: &mut [u8]) -> Punched
     requires { ⌜ Facts format ⌝ }
     ensures rows { λ r. ⌜ punchedTold r ≡ written (writtenFor format block (now (buffer .entry))) ⌝ }
     ensures buffer { λ r. ⌜ now (buffer .exit) ≡ after (now (buffer .entry)) (writtenFor format block (now (buffer .entry))) ⌝ }

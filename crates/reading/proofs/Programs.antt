@@ -23,7 +23,7 @@ abbrev pub blocksOf : List Entry → List Block
 blocksOf es = map (λ x. x .block) es
 
 -- what was taken came from something taken
-from-taken : {A B : Type 0} (a : Answer A) (f : A → Answer B) (b : B) → (a >>= f) ≡ taken b → (x : A) × (a ≡ taken x) × (f x ≡ taken b)
+pub from-taken : {A B : Type 0} (a : Answer A) (f : A → Answer B) (b : B) → (a >>= f) ≡ taken b → (x : A) × (a ≡ taken x) × (f x ≡ taken b)
 from-taken (taken x) f b e = (x, refl, e)
 from-taken (refused n p) f b e = let z : _≡_ {A = ℕ} 0 1 = cc in absurd (omega arith)
 

@@ -16,10 +16,11 @@ use Rattle.shorthand.specs.declared.Kind.the-variants.{Plain}
 use Rattle.shorthand.specs.declared.Item.{Item}
 use Rattle.shorthand.specs.declared.Format.{Format}
 use Rattle.shorthand.specs.Facts.{Widths, Fair, none, more, Facts}
+use Rattle.reading.specs.Parse.{blockAt}
 use Rattle.reading.specs.Answers.{programAt}
 use Rattle.reading.proofs.Outcomes.{Table, Placed, no-row, next-row}
 use Rattle.reading.proofs.ReadData.{Sayable}
-use Rattle.reading.proofs.ReadBlocks.{program-read}
+use Rattle.reading.proofs.ReadBlocks.{block-read, program-read}
 
 -- ---- the table
 
@@ -64,7 +65,13 @@ own-rows : {P : ℕ → Type 0} (rs : List KeptRow) → ((p : ℕ) → AtRow rs 
 own-rows [] f = no-row
 own-rows (r ∷ rs) f = next-row (f (r .place) (List·Memᴰ·head refl)) (own-rows rs (λ p m. f p (List·Memᴰ·tail m)))
 
+table : (len : ℕ) (rs : List KeptRow) → Table (Listed len rs) (AtRow rs) len
+table len rs = record { at-row = λ m l h q a. at-row l h a; no-head = no-head; cut = cut }
+
 pub refusals : (f : Format) → Facts f → (len : ℕ) (rs : List KeptRow) (n p : ℕ) → programAt len f rs ≡ refused n p → Listed len rs n p
 refusals f facts len rs n p e =
-    let t : Table (Listed len rs) (AtRow rs) len = record { at-row = λ m l h q a. at-row l h a; no-head = no-head; cut = cut } in
-    of-refused (program-read t f (fair-sayable len rs (facts .fair)) rs (own-rows rs (λ q m. m))) e
+    of-refused (program-read (table len rs) f (fair-sayable len rs (facts .fair)) rs (own-rows rs (λ q m. m))) e
+
+-- and so is every refusal of a single block
+pub block-refusals : (f : Format) → Facts f → (len : ℕ) (rs : List KeptRow) (n p : ℕ) → blockAt len f rs ≡ refused n p → Listed len rs n p
+block-refusals f facts len rs n p e = of-refused (block-read (table len rs) f (fair-sayable len rs (facts .fair)) rs (own-rows rs (λ q m. m))) e

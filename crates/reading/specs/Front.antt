@@ -6,14 +6,10 @@ use lib.Dec.{ltb}
 use lib.ListN.{length, getD}
 use Rattle.rows.specs.Answer.{Answer, taken, refused, valueOr, _>>=_}
 use Rattle.rows.specs.Kept.{KeptRow}
-use Rattle.words.specs.Figures.{Behind}
 use Rattle.reading.specs.declared.Block.{Block}
 use Rattle.reading.specs.declared.Part.{Part}
-use Rattle.reading.specs.Parse.{BlockRead, Entry}
+use Rattle.reading.specs.Parse.{Entry}
 use Rattle.reading.specs.Answers.{nowhere}
-
-abbrev pub blockOnly : Answer (Behind BlockRead) → Answer Block
-blockOnly a = a >>= λ b. taken (b .value .block)
 
 -- where the rows of block n stand, and its record; none where it is not there
 abbrev pub partOf : Entry → Part

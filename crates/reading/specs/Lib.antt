@@ -4,4 +4,5 @@ pub mod Relation
 pub mod Parse
 pub mod Answers
 pub mod Front
+pub mod Survey
 pub mod Remains

@@ -8,10 +8,10 @@ ghost use Rattle.reading.specs.Answers.{nowhere, read, entryNumbered, co
 ghost use Rattle.reading.specs.Front.{partOf, partIn, blockIn, hasBlock};
 
 pub mod records;
-mod walk;
+pub mod walk;
 
+use records::block_from;
 use records::empty_block;
-use records::gather_block;
 use rows::Checked;
 use rows::Refusal;
 use shorthand::Format;
@@ -40,16 +40,24 @@ pub struct Part {
     pub to: usize,
 }
 
-// The number of blocks, and where the rows of one of them stand.
+// The number of blocks, where the rows of one of them stand, and where those of the last do: where there is none, no rows just after the head.
 pub struct Survey {
     pub count: Counted,
     pub part: Part,
+    pub last: Part,
 }
 
 // Block n, or why there is none.
 pub struct BlockAnswer {
     pub outcome: Checked,
     pub block: Block,
+}
+
+// A block and where its rows stand, or why there is none.
+pub struct EntryAnswer {
+    pub outcome: Checked,
+    pub block: Block,
+    pub part: Part,
 }
 
 // Where the rows of block n stand, or why there are none.
@@ -124,9 +132,11 @@ fn read_under(tape: &[u8], format: Format, n: usize) -> BlockAnswer
             block: empty_block(),
         };
     }
+    let gathered = block_from(tape, format, part.from);
+    let block = gathered.block;
     BlockAnswer {
         outcome: Checked::Clean,
-        block: gather_block(tape, format, part.from),
+        block,
     }
 }
 
@@ -164,7 +174,7 @@ fn find_part(edition: u32, text: &[u8], profile: &[u8], tape: &[u8], n: usize) -
     }
 }
 
-fn number_of(outcome: Checked) -> u32
+pub fn number_of(outcome: Checked) -> u32
     ensures { λ r. ⌜ r ≡ numberOf (told outcome) ⌝ }
 {
     match outcome {
@@ -173,7 +183,7 @@ fn number_of(outcome: Checked) -> u32
     }
 }
 
-fn place_of(outcome: Checked) -> usize
+pub fn place_of(outcome: Checked) -> usize
     ensures { λ r. ⌜ r ≡ placeOf (told outcome) ⌝ }
 {
     match outcome {

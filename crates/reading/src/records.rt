@@ -3,15 +3,18 @@ ghost use mathlib.Core.Path.{_≡_};
 ghost use mathlib.Core.List.{[]};
 ghost use Prim.Native.Nat.{_+_, _<_};
 ghost use lib.ListN.{length, set};
-ghost use Rattle.rows.specs.Kept.{keptAt};
+ghost use Rattle.rows.specs.Answer.{refused};
 ghost use Rattle.shorthand.specs.Facts.{Facts};
 ghost use Rattle.reading.specs.Record.{blockOf, emptyBlock};
-ghost use Rattle.reading.specs.Parse.{blocksAt};
-ghost use Rattle.reading.specs.Front.{blockIn};
+ghost use Rattle.reading.specs.Survey.{entryFrom, entryAnswer};
 use crate::Block;
+use crate::EntryAnswer;
+use crate::Part;
 use parts::Begun;
 use parts::items::lead_letters;
 use parts::items::rules_of;
+use rows::Checked;
+use rows::Refusal;
 use shorthand::Format;
 use steps::Cursor;
 use steps::Event;
@@ -62,10 +65,21 @@ pub fn empty_block() -> Block
     })
 }
 
-// The record of the block that begins at a row; an empty one where none does.
-pub(crate) fn gather_block(tape: &[u8], format: Format, from: usize) -> Block
+// Where no block begins.
+pub fn no_entry(number: u32, place: usize) -> EntryAnswer
+    ensures { λ r. ⌜ r ≡ entryAnswer (refused number place) ⌝ }
+{
+    EntryAnswer {
+        outcome: Checked::Refused(Refusal { number, place }),
+        block: empty_block(),
+        part: Part { from: 0, to: 0 },
+    }
+}
+
+// The block that begins at a row, whatever stands before it, and where its rows stand.
+pub fn block_from(tape: &[u8], format: Format, from: usize) -> EntryAnswer
     requires { ⌜ Facts format ⌝ }
-    ensures { λ r. ⌜ r ≡ blockIn 0 (blocksAt 1 (length (now (tape .entry))) format from (keptAt (now (tape .entry)) from)) ⌝ }
+    ensures { λ r. ⌜ r ≡ entryAnswer (entryFrom format (now (tape .entry)) from) ⌝ }
 {
     let rules = rules_of(format);
     let leads = lead_letters(format);
@@ -90,14 +104,18 @@ pub(crate) fn gather_block(tape: &[u8], format: Format, from: usize) -> Block
             Event::Read(word) => {
                 block = with_word(block, word);
             }
-            Event::Closed(_) => {
-                return block;
+            Event::Closed(lf) => {
+                return EntryAnswer {
+                    outcome: Checked::Clean,
+                    block,
+                    part: Part { from, to: lf + 1 },
+                };
             }
             Event::Finished => {
-                return empty_block();
+                return no_entry(14, tape.len());
             }
-            Event::Refused(_) => {
-                return empty_block();
+            Event::Refused(r) => {
+                return no_entry(r.number, r.place);
             }
             Event::Out => {}
         }

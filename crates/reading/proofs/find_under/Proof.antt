@@ -14,7 +14,7 @@ within-requires : tie.Need-within-requires
 within-requires c κs = search needs
 
 returns : tie.Need-returns
-returns c = (c .within .ensures ∙ ap (hasBlock _) (c .before .before .survey-tape .ensures .0), c .before .before .survey-tape .ensures .1)
+returns c = (c .within .ensures ∙ ap (hasBlock _) (c .before .before .survey-tape .ensures .0), c .before .before .survey-tape .ensures .1 .0)
 
 pub find-under-spec : {M : Type 1} → statement M
 find-under-spec = tie.close (tie.spec survey-tape-requires within-requires returns)

@@ -3,13 +3,12 @@ use mathlib.Core.Path.{_∙_, sym, ap, refl}
 use denote.Ref.{now}
 use Rattle.rows.specs.Answer.{told}
 use Rattle.reading.specs.Answers.{read}
-use Rattle.reading.proofs.Gathering.{one-block}
 use Rattle.reading.proofs.OwnRows.{no-block, block-there}
 use borrow.Author.Needs.{needs}
 use Rattle.reading.proofs.read_under.Statement.{statement}
 use Rattle.reading.proofs.read_under.Tie as tie
 use Rattle.reading.proofs.records.empty_block.Reads as empty-block-reads
-use Rattle.reading.proofs.records.gather_block.Reads as gather-block-reads
+use Rattle.reading.proofs.records.block_from.Reads as block-from-reads
 use Rattle.reading.proofs.find_under.Reads as find-under-reads
 
 find-under-requires : tie.Need-find-under-requires
@@ -30,13 +29,13 @@ returns c =
 enum-told : tie.Need-enum-told
 enum-told c = search needs
 
-gather-block-requires : tie.Need-gather-block-requires
-gather-block-requires c κs = search needs
+block-from-requires : tie.Need-block-from-requires
+block-from-requires c κs = search needs
 
 returns-2 : tie.Need-returns-2
 returns-2 c =
-    let e = ap told (sym (c .before .enum-told .given .1)) ∙ c .before .before .before .before .find-under .ensures .0 in
-    (e, c .gather-block .ensures ∙ (one-block _ _ _ _ ∙ block-there _ _ _ (sym e) _ (c .before .before .before .before .find-under .ensures .1) _ refl))
+    let e = ap told (sym (c .before .before .enum-told .given .1)) ∙ c .before .before .before .before .before .find-under .ensures .0 in
+    (e, ap (λ x. x .block) (c .before .block-from .ensures) ∙ block-there _ _ _ (sym e) _ (c .before .before .before .before .before .find-under .ensures .1))
 
 pub read-under-spec : {M : Type 1} → statement M
 read-under-spec =
@@ -47,5 +46,5 @@ read-under-spec =
     empty-block-requires
     returns
     enum-told
-    gather-block-requires
+    block-from-requires
     returns-2)

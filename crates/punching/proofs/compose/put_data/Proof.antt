@@ -2,7 +2,7 @@
 use mathlib.Core.Path.{_∙_, sym}
 use native.Mathlib.Omega.{arith}
 use Rattle.reading.proofs.DigitRows.{digits-length}
-use Rattle.punching.proofs.Measures.{never}
+use Rattle.reading.proofs.Outcomes.{never}
 use Rattle.punching.proofs.DataSteps.{plain-other, plain-small}
 use borrow.Author.Needs.{needs}
 use Rattle.punching.proofs.compose.put_data.Statement.{statement}

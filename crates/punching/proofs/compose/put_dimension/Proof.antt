@@ -14,7 +14,7 @@ use Rattle.reading.specs.Relation.{digits}
 use Rattle.reading.proofs.DigitRows.{digits-length}
 use Rattle.punching.specs.Rows.{minus, dataRows}
 use Rattle.punching.proofs.Lines.{put-more}
-use Rattle.punching.proofs.Measures.{never}
+use Rattle.reading.proofs.Outcomes.{never}
 use Rattle.punching.proofs.DataSteps.{dimension-other, dimension-small, sign-stands, no-sign}
 use borrow.Author.Needs.{needs}
 use Rattle.punching.proofs.compose.put_dimension.Statement.{statement}

@@ -5,7 +5,7 @@ use Rattle.speeds.specs.declared.Exact.the-variants.{Means}
 use Rattle.speeds.specs.Coding.{exactFor, codeTold}
 use Rattle.speeds.proofs.Bounds.{exact-code-under}
 use Rattle.reading.proofs.DigitRows.{digits-length}
-use Rattle.punching.proofs.Measures.{never}
+use Rattle.reading.proofs.Outcomes.{never}
 use Rattle.punching.proofs.DataSteps.{speed-other, speed-coded, speed-codable}
 use borrow.Author.Needs.{needs}
 use Rattle.punching.proofs.compose.put_speed.Statement.{statement}

@@ -14,11 +14,11 @@ use Rattle.reading.proofs.walk.survey_blocks.Statement.{statement}
 use Rattle.reading.proofs.walk.survey_blocks.Tie as tie
 
 abbrev Inv-loop : tie.InvT-loop
-Inv-loop tape n first format rules leads cursor₀ from₀ count₀ part₀ cursor from count part =
-    Counts n (length tape) format first (rowsAt tape (cursor₀ .front)) from (spotTold tape cursor) count part
+Inv-loop tape n first format rules leads cursor₀ count₀ part₀ last₀ cursor count part last =
+    Counts n (length tape) format first (rowsAt tape (cursor₀ .front)) (spotTold tape cursor) count part last
 
 abbrev μ-loop : tie.MeasureT-loop
-μ-loop tape n first format rules leads cursor₀ from₀ count₀ part₀ cursor from count part = effort (length tape) from (cursor .stage) (cursor .item)
+μ-loop tape n first format rules leads cursor₀ count₀ part₀ last₀ cursor count part last = effort (length tape) (last .to) (cursor .stage) (cursor .item)
 
 -- what each step is handed is the Format's
 under : (c : tie.At-loop Inv-loop μ-loop) → Under (c .before .before .before .before .args .t2) (c .before .before .rules-of .result) (c .before .lead-letters .result)
@@ -28,7 +28,7 @@ under c = record { facts = c .before .before .before .before .pre .0; ruled = c 
 after : (c : tie.After-take-step Inv-loop μ-loop) (e : Event) → c .take-step .result .event ≡ e →
     let args = c .before .before .before .before .before .before .before .args in
     let walk = c .before .before .before .loop in
-    Behind (args .n) (length (now (args .tape))) (args .t2) (args .first) (rowsAt (now (args .tape)) (args .front)) (walk .from) (spotTold (now (args .tape)) (walk .cursor)) (walk .count) (walk .part)
+    Behind (args .n) (length (now (args .tape))) (args .t2) (args .first) (rowsAt (now (args .tape)) (args .front)) (spotTold (now (args .tape)) (walk .cursor)) (walk .count) (walk .part) (walk .last)
     (spotTold (now (args .tape)) (c .take-step .result .cursor)) e
 after c e q = counts-on _ _ _ _ _ (under (c .before .before .before)) (c .before .before .before .loop .inv) _ (c .take-step .ensures) e q
 
@@ -67,9 +67,6 @@ add-t31 c = omega (arith, after (c .before .before .before .before) _ (c .before
 
 pick-part-requires : tie.Need-pick-part-requires Inv-loop μ-loop
 pick-part-requires c κs = search needs
-
-add-from : tie.Need-add-from Inv-loop μ-loop
-add-from c = omega (arith, after (c .before .before .before .before .before) _ (c .before .before .event .given .1) .3)
 
 add-count : tie.Need-add-count Inv-loop μ-loop
 add-count c = omega (arith, after (c .before .before .before .before .before) _ (c .before .before .event .given .1) .2)
@@ -110,7 +107,6 @@ survey-blocks-spec =
     enum-known-event
     add-t31
     pick-part-requires
-    add-from
     add-count
     loop-less
     loop-again

@@ -7,7 +7,8 @@ use Rattle.rows.specs.Answer.{refusal}
 use Rattle.parts.specs.Front.{endTold, endRefusal}
 use Rattle.reading.specs.Answers.{sizeOf}
 use Rattle.reading.specs.Front.{partIn}
-use Rattle.reading.proofs.BlockWalk.{not-entered, enters-at, enters}
+use Rattle.reading.specs.Survey.{lastIn}
+use Rattle.reading.proofs.BlockWalk.{not-entered, enters-at, enters, survey-refused, survey-enters}
 use Rattle.reading.proofs.walk.survey_tape.Statement.{statement}
 use Rattle.reading.proofs.walk.survey_tape.Tie as tie
 
@@ -25,8 +26,9 @@ end-refusal-requires c κs = search needs
 
 returns : tie.Need-returns
 returns c =
-    let e = not-entered _ _ _ _ (sym (c .before .before .before .enter-tape .ensures) ∙ ap (endTold _) (c .before .enum-told .given .1)) in
-    (ap refusal (c .end-refusal .ensures ∙ ap endRefusal (c .before .enum-told .given .1)) ∙ sym (ap sizeOf e), sym (ap (partIn _) e))
+    let q = sym (c .before .before .before .enter-tape .ensures) ∙ ap (endTold _) (c .before .enum-told .given .1) in
+    let e = not-entered _ _ _ _ q in
+    (ap refusal (c .end-refusal .ensures ∙ ap endRefusal (c .before .enum-told .given .1)) ∙ sym (ap sizeOf e), (sym (ap (partIn _) e), sym (ap lastIn (survey-refused _ _ _ _ q))))
 
 add-survey-blocks : tie.Need-add-survey-blocks
 add-survey-blocks c = omega (arith, enters-at (now (c .before .before .before .before .before .args .tape)) _ _ (sym (c .before .before .before .enter-tape .ensures) ∙ ap (endTold _) (c .before .head .given .1)) .0)
@@ -36,8 +38,10 @@ survey-blocks-requires c κs = (c .before .before .before .before .before .pre, 
 
 returns-2 : tie.Need-returns-2
 returns-2 c =
-    let e = enters _ _ _ _ (sym (c .before .before .before .before .enter-tape .ensures) ∙ ap (endTold _) (c .before .before .head .given .1)) in
-    (c .survey-blocks .ensures .0 ∙ sym (ap sizeOf e), c .survey-blocks .ensures .1 ∙ sym (ap (partIn _) e))
+    let q = sym (c .before .before .before .before .enter-tape .ensures) ∙ ap (endTold _) (c .before .before .head .given .1) in
+    let e = enters _ _ _ _ q in
+    let s = c .survey-blocks .ensures in
+    (s .0 ∙ sym (ap sizeOf e), (s .1 .0 ∙ sym (ap (partIn _) e), s .1 .1 ∙ sym (ap lastIn (survey-enters _ _ _ _ q))))
 
 pub survey-tape-spec : {M : Type 1} → statement M
 survey-tape-spec =

@@ -1,5 +1,6 @@
--- `reading::records::gather_block`: a loop over the steps of one block that stores its words.
-use mathlib.Core.Path.{_≡_, _∙_}
+-- `reading::records::block_from`: a loop over the steps of one block that stores its words.
+use mathlib.Core.Path.{_≡_, _∙_, sym, ap}
+use native.Mathlib.Omega.{arith}
 use lib.ListN.{length}
 use denote.Ref.{now}
 use borrow.Author.Needs.{needs}
@@ -7,11 +8,12 @@ use Rattle.rows.specs.Kept.{keptAt}
 use Rattle.words.proofs.Fetched.{fetched}
 use Rattle.steps.specs.declared.Event.{Event}
 use Rattle.steps.specs.Front.{spotTold}
+use Rattle.reading.specs.Survey.{entryFrom, entryAnswer}
 use Rattle.reading.proofs.Places.{rising-at}
 use Rattle.reading.proofs.StepLaws.{Under, ready, effort}
 use Rattle.reading.proofs.Gathering.{Gathers, After, gathers-none, gathers-on}
-use Rattle.reading.proofs.records.gather_block.Statement.{statement}
-use Rattle.reading.proofs.records.gather_block.Tie as tie
+use Rattle.reading.proofs.records.block_from.Statement.{statement}
+use Rattle.reading.proofs.records.block_from.Tie as tie
 
 abbrev Inv-loop : tie.InvT-loop
 Inv-loop tape from format rules leads cursor₀ block₀ cursor block =
@@ -83,41 +85,47 @@ loop-less-2 c = after (c .before .before .before .before .before) _ (c .before .
 loop-again-2 : tie.Need-loop-again-2 Inv-loop μ-loop
 loop-again-2 c = after (c .before .before .before .before .before) _ (c .before .before .event2 .given .1) .1 _ (c .with-word .ensures)
 
+enum-known-event-3 : tie.Need-enum-known-event-3 Inv-loop μ-loop
+enum-known-event-3 c = search needs
+
+add-t29 : tie.Need-add-t29 Inv-loop μ-loop
+add-t29 c = omega (arith, after (c .before .before .before .before) _ (c .before .event3 .given .1) .1)
+
+returns : tie.Need-returns Inv-loop μ-loop
+unfolding entryFrom
+returns c = sym (ap entryAnswer (after (c .before .before .before .before) _ (c .before .event3 .given .1) .0))
+
 enum-told : tie.Need-enum-told Inv-loop μ-loop
 enum-told c = search needs
 
-returns : tie.Need-returns Inv-loop μ-loop
-returns c = after (c .before .before .before) _ (c .enum-told .given .1)
+no-entry-requires : tie.Need-no-entry-requires Inv-loop μ-loop
+no-entry-requires c κs = search needs
+
+returns-2 : tie.Need-returns-2 Inv-loop μ-loop
+unfolding entryFrom
+returns-2 c = c .no-entry .ensures ∙ sym (ap entryAnswer (after (c .before .before .before .before) _ (c .before .enum-told .given .1)))
+
+enum-known-event-4 : tie.Need-enum-known-event-4 Inv-loop μ-loop
+enum-known-event-4 c = search needs
+
+no-entry-requires-2 : tie.Need-no-entry-requires-2 Inv-loop μ-loop
+no-entry-requires-2 c κs = search needs
+
+returns-3 : tie.Need-returns-3 Inv-loop μ-loop
+unfolding entryFrom
+returns-3 c = c .no-entry2 .ensures ∙ sym (ap entryAnswer (after (c .before .before .before .before .before) _ (c .before .before .event4 .given .1)))
 
 enum-told-2 : tie.Need-enum-told-2 Inv-loop μ-loop
 enum-told-2 c = search needs
 
-empty-block-requires-2 : tie.Need-empty-block-requires-2 Inv-loop μ-loop
-empty-block-requires-2 c κs = search needs
-
-returns-2 : tie.Need-returns-2 Inv-loop μ-loop
-returns-2 c = c .empty-block2 .ensures ∙ after (c .before .before .before .before) _ (c .before .enum-told2 .given .1)
-
-enum-told-3 : tie.Need-enum-told-3 Inv-loop μ-loop
-enum-told-3 c = search needs
-
-empty-block-requires-3 : tie.Need-empty-block-requires-3 Inv-loop μ-loop
-empty-block-requires-3 c κs = search needs
-
-returns-3 : tie.Need-returns-3 Inv-loop μ-loop
-returns-3 c = c .empty-block3 .ensures ∙ after (c .before .before .before .before) _ (c .before .enum-told3 .given .1)
-
-enum-told-4 : tie.Need-enum-told-4 Inv-loop μ-loop
-enum-told-4 c = search needs
-
 loop-less-3 : tie.Need-loop-less-3 Inv-loop μ-loop
-loop-less-3 c = after (c .before .before .before) _ (c .enum-told4 .given .1) .1
+loop-less-3 c = after (c .before .before .before) _ (c .enum-told2 .given .1) .1
 
 loop-again-3 : tie.Need-loop-again-3 Inv-loop μ-loop
-loop-again-3 c = after (c .before .before .before) _ (c .enum-told4 .given .1) .0
+loop-again-3 c = after (c .before .before .before) _ (c .enum-told2 .given .1) .0
 
-pub gather-block-spec : {M : Type 1} → statement M
-gather-block-spec =
+pub block-from-spec : {M : Type 1} → statement M
+block-from-spec =
     tie.close
     (tie.spec
     Inv-loop
@@ -139,14 +147,15 @@ gather-block-spec =
     with-word-requires
     loop-less-2
     loop-again-2
-    enum-told
+    enum-known-event-3
+    add-t29
     returns
-    enum-told-2
-    empty-block-requires-2
+    enum-told
+    no-entry-requires
     returns-2
-    enum-told-3
-    empty-block-requires-3
+    enum-known-event-4
+    no-entry-requires-2
     returns-3
-    enum-told-4
+    enum-told-2
     loop-less-3
     loop-again-3)
