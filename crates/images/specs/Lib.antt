@@ -1,0 +1,3 @@
+-- What the crate's promises cite: where a block's rows go, and what an image and its index hold after.
+pub mod Images
+pub mod Made
