@@ -47,7 +47,7 @@ Answered table a = Holds table (λ x. Unit {0}) a
 
 -- ---- the shorthand and the profile
 
-settled-answered : (e : ℕ) (s p : List ℕ) → Holds (Unsettled e s p) (λ f. Settled e s p f) (agreed e s p)
+pub settled-answered : (e : ℕ) (s p : List ℕ) → Holds (Unsettled e s p) (λ f. Settled e s p f) (agreed e s p)
 settled-answered e s p = by (agreed e s p) refl
   where
     by : (a : Answer Format) → agreed e s p ≡ a → Holds (Unsettled e s p) (λ f. Settled e s p f) a
@@ -57,7 +57,7 @@ settled-answered e s p = by (agreed e s p) refl
 -- ---- a tape
 
 module _ (e : ℕ) (s p t : List ℕ) where
-  under-answered : Answered (Reading e s p t) (readUnder e s p t)
+  pub under-answered : Answered (Reading e s p t) (readUnder e s p t)
   unfolding readUnder read
   under-answered = by (settled-answered e s p)
     where

@@ -1,5 +1,6 @@
 -- The user's three demands, a file for each, in the order of his sentences.
 pub mod Demand1
+pub mod Indexes
 pub mod TapeParts
 pub mod Demand2
 pub mod Demand3

@@ -16,6 +16,10 @@ use Rattle.punching.specs.declared.Measured.{Measured}
 use Rattle.punching.specs.declared.Punched.{Punched}
 use Rattle.punching.specs.declared.Punched.the-variants.{Rows}
 use Rattle.punching.specs.Answers.{measuredTold, punchedTold}
+use Rattle.index.specs.declared.Located.{Located}
+use Rattle.index.specs.Finding.{locatedTold}
+use Rattle.images.specs.declared.Updated.{Updated}
+use Rattle.images.specs.Images.{updatedTold}
 
 pub one-check : (r q : Checked) → told r ≡ told q → r ≡ q
 one-check r q = one told (λ u. Clean) Refused (case r) (case q)
@@ -58,3 +62,17 @@ one-measure r q = one measuredTold Measured.Rows Measured.Refused (case r) (case
     case : (r : Measured) → Case measuredTold Measured.Rows Measured.Refused r
     case (Measured.Rows n) = takes n refl
     case (Measured.Refused r) = refuses r refl
+
+pub one-place : (r q : Located) → locatedTold r ≡ locatedTold q → r ≡ q
+one-place r q = one locatedTold Located.Block Located.Refused (case r) (case q)
+  where
+    case : (r : Located) → Case locatedTold Located.Block Located.Refused r
+    case (Located.Block n) = takes n refl
+    case (Located.Refused r) = refuses r refl
+
+pub one-update : (r q : Updated) → updatedTold r ≡ updatedTold q → r ≡ q
+one-update r q = one updatedTold Updated.To Updated.Refused (case r) (case q)
+  where
+    case : (r : Updated) → Case updatedTold Updated.To Updated.Refused r
+    case (Updated.To i) = takes i refl
+    case (Updated.Refused r) = refuses r refl

@@ -1,10 +1,12 @@
--- The table of refusals as relations: each number with its place and what calls for it (documents 01, "Refusal numbers", and 02, 5/12 and 6/12).
-use Prim.Native.Nat.{ℕ, _^_, _≤_, _<_}
+-- The table of refusals as relations: each number with its place and what calls for it (documents 01, "Refusal numbers", and 02, 5/12, 6/12 and
+-- 7/12).
+use Prim.Native.Nat.{ℕ, suc, _+_, _^_, _≤_, _<_}
 use mathlib.Core.Path.{_≡_}
 use mathlib.Core.Bool.{true, false}
 use mathlib.Core.List.{List, []}
-use lib.ListN.{length}
+use lib.ListN.{length, getD, drop}
 use Rattle.rows.specs.Answer.{taken}
+use Rattle.rows.specs.Stages.{limit}
 use Rattle.rows.specs.Faults.{RowRefusal}
 use Rattle.shorthand.specs.declared.Format.{Format}
 use Rattle.profile.specs.Relation.{Settled, Unsettled}
@@ -12,6 +14,7 @@ use Rattle.reading.specs.declared.Block.{Block}
 use Rattle.reading.specs.Record.{wordsOf}
 use Rattle.reading.specs.Answers.{counted}
 use Rattle.punching.specs.Rows.{rowsOf}
+use Rattle.index.specs.Finding.{upTo}
 use Rattle.places.specs.Faults.{RefusalOf}
 
 -- 4 to 14 of a tape under a shorthand and a profile that are in order: 4 to 7 by its rows, 8 to 14 by what its kept rows could still have become
@@ -51,6 +54,37 @@ pub data Punching (e : ℕ) (s p : List ℕ) (b : Block) (buffer : List ℕ) : �
 -- the head: 19 at its two rows
 pub data Heading (buffer : List ℕ) : ℕ → ℕ → Type 0 where
   full : length buffer < 2 → Heading buffer 19 2
+
+-- an index built for a tape: 24 at its blocks where the arrays have no room for them
+pub data Indexing (e : ℕ) (s p t : List ℕ) (firsts numbers : ℕ) : ℕ → ℕ → Type 0 where
+  unread : {n k : ℕ} → Reading e s p t n k → Indexing e s p t firsts numbers n k
+  no-room : {c : ℕ} → counted e s p t ≡ taken c → (c ≤ firsts → c ≤ numbers → ⊥) → Indexing e s p t firsts numbers 24 c
+
+-- a block appended to an image, of a tape that is accepted: the record's, then 24 at one entry more than there are blocks, then 4, then 19 at the rows that the image needs
+pub data Appending (e : ℕ) (s p t : List ℕ) (capacity firsts numbers : ℕ) (b : Block) : ℕ → ℕ → Type 0 where
+  unread : {n k : ℕ} → Reading e s p t n k → Appending e s p t capacity firsts numbers b n k
+  unmeasured : {c n k : ℕ} → counted e s p t ≡ taken c → Measuring e s p b n k → Appending e s p t capacity firsts numbers b n k
+  no-room : {c : ℕ} → counted e s p t ≡ taken c → (suc c ≤ firsts → suc c ≤ numbers → ⊥) → Appending e s p t capacity firsts numbers b 24 (suc c)
+  too-long : {f : Format} → Settled e s p f → limit < length t + length (rowsOf f b) → Appending e s p t capacity firsts numbers b 4 limit
+  full : {f : Format} → Settled e s p f → length t + length (rowsOf f b) ≤ limit → capacity < length t + length (rowsOf f b)
+      → Appending e s p t capacity firsts numbers b 19 (length t + length (rowsOf f b))
+
+-- the last block taken off: 15 at 0 where there is none
+pub data TakingOff (e : ℕ) (s p t : List ℕ) : ℕ → ℕ → Type 0 where
+  unread : {n k : ℕ} → Reading e s p t n k → TakingOff e s p t n k
+  empty : counted e s p t ≡ taken 0 → TakingOff e s p t 15 0
+
+-- block n through an index, of this tape or not: 4; 15 at the entries; 5 to 7 of its own rows, counted on the tape; and what the fourth stage says of a single block
+pub data LookingUp (e : ℕ) (s p t firsts : List ℕ) (n : ℕ) : ℕ → ℕ → Type 0 where
+  settling : {m k : ℕ} → Unsettled e s p m k → LookingUp e s p t firsts n m k
+  long : {f : Format} → Settled e s p f → limit < length t → LookingUp e s p t firsts n 4 limit
+  past : {f : Format} → Settled e s p f → length firsts ≤ n → LookingUp e s p t firsts n 15 (length firsts)
+  own-rows : {f : Format} {m k : ℕ} → Settled e s p f → n < length firsts → RowRefusal (drop (getD firsts n 0) (upTo t firsts n)) m k → LookingUp e s p t firsts n m (getD firsts n 0 + k)
+  own-block : {f : Format} {m k : ℕ} → Settled e s p f → n < length firsts → 8 ≤ m → m ≤ 14 → k ≤ length (upTo t firsts n) → LookingUp e s p t firsts n m k
+
+-- no block has the number
+pub data Seeking : ℕ → ℕ → Type 0 where
+  nowhere : Seeking 25 0
 
 -- a code c of k digits given as a number: 13 in three to five digits alone; 21 for another length, or more digits than that
 pub data Speaking (k c : ℕ) : ℕ → ℕ → Type 0 where
