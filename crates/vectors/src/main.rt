@@ -5,6 +5,7 @@ ghost use lib.ListN.{length};
 mod answers;
 mod asked;
 mod block_cases;
+mod index_cases;
 mod line_cases;
 mod punch_cases;
 mod records;
@@ -83,12 +84,84 @@ fn answer_punching(
     }
 }
 
-// A capital letter and a space, in a line that is not too long.
-fn is_asked(line: &[u8]) -> bool {
-    if line.len() < 2 || MOST < line.len() {
-        return false;
+// What is asked of the index, and of images that it is kept with.
+fn answer_index(
+    letter: u8,
+    asked: &[u8],
+    tape: &mut [u8],
+    buffer: &mut [u8],
+    out: &mut [u8],
+    at: usize,
+) -> usize {
+    match letter {
+        b'B' => index_cases::build(asked, tape, out, at),
+        b'A' => index_cases::append(asked, tape, buffer, out, at),
+        b'O' => index_cases::take_off(asked, tape, buffer, out, at),
+        b'L' => index_cases::append_long(asked, out, at),
+        b'W' => index_cases::block(asked, tape, out, at),
+        b'P' => index_cases::part_of(asked, tape, out, at),
+        b'N' => index_cases::find(asked, out, at),
+        _ => at,
     }
-    b'A' <= line[0] && line[0] <= b'Z' && line[1] == b' '
+}
+
+fn is_capital(c: u8) -> bool {
+    b'A' <= c && c <= b'Z'
+}
+
+// How many letters a line is asked by: one capital before a space or two, in a line that is not too long. Of one that is not asked, none.
+fn letters_of(line: &[u8]) -> usize {
+    if line.len() < 2 || MOST < line.len() {
+        return 0;
+    }
+    if !is_capital(line[0]) {
+        return 0;
+    }
+    if line[1] == b' ' {
+        return 1;
+    }
+    if line.len() < 3 || !is_capital(line[1]) {
+        return 0;
+    }
+    if line[2] == b' ' {
+        return 2;
+    }
+    0
+}
+
+// The answer to a line that one letter asks.
+fn answer_letter(
+    line: &[u8],
+    tape: &mut [u8],
+    buffer: &mut [u8],
+    blank: &[u8],
+    out: &mut [u8],
+    at: usize,
+) -> usize {
+    if line.len() < 2 {
+        return at;
+    }
+    let letter = line[0];
+    let asked = &line[2..];
+    let next = answer_reading(letter, asked, tape, blank, out, at);
+    answer_punching(letter, asked, tape, buffer, out, next)
+}
+
+// The answer to a line that two letters ask.
+fn answer_pair(
+    line: &[u8],
+    tape: &mut [u8],
+    buffer: &mut [u8],
+    out: &mut [u8],
+    at: usize,
+) -> usize {
+    if line.len() < 3 {
+        return at;
+    }
+    if line[0] != b'I' {
+        return at;
+    }
+    answer_index(line[1], &line[3..], tape, buffer, out, at)
 }
 
 // A line and, where it is asked, the answer behind it; the end of one that is too long is plain.
@@ -102,17 +175,16 @@ fn run_line(
     start: usize,
 ) -> usize {
     let at = put_all(out, start, line);
-    if plain || !is_asked(line) {
+    let letters = letters_of(line);
+    if plain || letters == 0 {
         return put(out, at, b'\n');
     }
-    if line.len() < 2 {
-        return put(out, at, b'\n');
-    }
-    let letter = line[0];
-    let asked = &line[2..];
     let arrow = put_all(out, at, b" ->");
-    let next = answer_reading(letter, asked, tape, blank, out, arrow);
-    let end = answer_punching(letter, asked, tape, buffer, out, next);
+    if letters == 1 {
+        let end = answer_letter(line, tape, buffer, blank, out, arrow);
+        return put(out, end, b'\n');
+    }
+    let end = answer_pair(line, tape, buffer, out, arrow);
     put(out, end, b'\n')
 }
 
