@@ -6,6 +6,7 @@
 #![forbid(unsafe_code)]
 #![warn(missing_docs)]
 
+pub mod index;
 pub mod listing;
 pub mod profile;
 pub mod punching;
@@ -22,7 +23,7 @@ use std::fmt;
 /// A refusal by its number in the rules, and its place.
 #[derive(Clone, Copy, Debug, PartialEq, Eq)]
 pub struct Refusal {
-    /// 1 to 23
+    /// 1 to 25
     pub number: u32,
     /// a row, a byte of the shorthand or profile, or what the table of refusals says
     pub place: u64,

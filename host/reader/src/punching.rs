@@ -47,9 +47,12 @@ pub fn measure_block(format: &Format, record: &Record) -> Result<u64, Refusal> {
 
 /// Writes the block of `record` into the first rows of `buffer` and answers how many they are.
 pub fn punch_block(format: &Format, record: &Record, buffer: &mut [u8]) -> Result<u64, Refusal> {
-    let characters = block(format, record)?;
-    let rows: Vec<u8> = characters.into_iter().map(punched).collect();
-    put(buffer, &rows)
+    put(buffer, &block_rows(format, record)?)
+}
+
+/// The rows of the block of `record`.
+pub fn block_rows(format: &Format, record: &Record) -> Result<Vec<u8>, Refusal> {
+    Ok(block(format, record)?.into_iter().map(punched).collect())
 }
 
 /// All of `rows` or, where they don't fit, none.

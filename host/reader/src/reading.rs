@@ -139,8 +139,15 @@ pub fn read<V: Visitor>(format: &Format, tape: &[u8], visitor: &mut V) -> Result
     Ok(())
 }
 
+/// Reads the one block that begins at the row `from` of `tape`, which has passed the stages before.
+pub fn read_at<V: Visitor>(format: &Format, tape: &[u8], from: usize, visitor: &mut V) -> Result<(), Refusal> {
+    let mut reader = Reader { tape, place: from };
+    reader.pass_over();
+    reader.block(format, visitor)
+}
+
 /// Stage 3: "(" opens, the first ")" closes, and neither ":" nor "%" stands between.
-fn judge_control_outs(tape: &[u8]) -> Result<(), Refusal> {
+pub fn judge_control_outs(tape: &[u8]) -> Result<(), Refusal> {
     let character = |at: usize| tape[at] & 0x7F;
     let mut at = 0;
     while at < tape.len() {

@@ -1,6 +1,7 @@
 //! Asking the library by lines of text, as crates/vectors/LINES.md has them, and what the reader answers.
 
 use super::chance::Chance;
+use super::indexed::{self, Indexed};
 use super::inputs::{self, bad_text, either_edition, lent, strange_edition, Ask, Input};
 use super::misplaced::{self, Slipped};
 use super::profiles;
@@ -74,6 +75,8 @@ pub enum Line {
     Measure(Box<Handed>),
     /// V: a record's rows written
     Write(Box<Handed>),
+    /// a line of two letters: the index of a tape's blocks, and the image that it is kept with
+    Indexed(Box<Indexed>),
     /// a line that is spelt as it would not be by itself
     Spelt(&'static str, Box<Line>),
     /// a line that asks nothing
@@ -111,7 +114,7 @@ pub struct Reply {
 }
 
 impl Reply {
-    fn new(number: u64, place: u64, handed: &str) -> Reply {
+    pub(super) fn new(number: u64, place: u64, handed: &str) -> Reply {
         Reply { number, place, unnumbered: false, written: format!("{number} {place} {handed}") }
     }
 
@@ -133,7 +136,7 @@ impl Line {
     /// The line as it is asked.
     pub fn text(&self) -> Vec<u8> {
         match self {
-            Line::Count { specification, tape } => judged('B', specification, &asked(tape)),
+            Line::Count { specification, tape } => judged("B", specification, &asked(tape)),
             Line::Speed { digits, code } => format!("S {digits} {code}").into_bytes(),
             Line::Code { digits, speed } => format!("C {digits} {speed}").into_bytes(),
             Line::ExactCode { digits, speed } => format!("X {digits} {speed}").into_bytes(),
@@ -142,11 +145,12 @@ impl Line {
             Line::Agreed(Specification { edition, shorthand, profile }) => {
                 [format!("G {edition} ").as_bytes(), shorthand, b"|", profile, b"|"].concat()
             }
-            Line::Block(nth) => nth.text('W'),
-            Line::Rows(nth) => nth.text('P'),
-            Line::Punch(handed) => handed.text('J'),
-            Line::Measure(handed) => judged('U', &handed.specification, &record_text(&handed.record)),
-            Line::Write(handed) => handed.text('V'),
+            Line::Block(nth) => nth.text("W"),
+            Line::Rows(nth) => nth.text("P"),
+            Line::Punch(handed) => handed.text("J"),
+            Line::Measure(handed) => judged("U", &handed.specification, &record_text(&handed.record)),
+            Line::Write(handed) => handed.text("V"),
+            Line::Indexed(indexed) => indexed.text(),
             Line::Spelt(text, _) => text.as_bytes().to_vec(),
             Line::Remark(text) => text.clone(),
         }
@@ -169,9 +173,7 @@ impl Line {
             Line::Block(Nth { specification, n, tape }) => {
                 let block = specification.format().and_then(|format| read_block(&format, tape, *n));
                 let unnumbered = block.as_ref().is_ok_and(|block| !block.opening.numbered);
-                // a refusal hands back a record with neither number nor word
-                let none = Block { opening: Opening::BARE, words: Vec::new() };
-                Reply { unnumbered, ..handed_back(block, none, |block| record_text(&Record::from(&block))) }
+                Reply { unnumbered, ..block_reply(block) }
             }
             Line::Rows(Nth { specification, n, tape }) => {
                 let rows = specification.format().and_then(|format| block_rows(&format, tape, *n));
@@ -190,6 +192,7 @@ impl Line {
                 let count = measure_block(&handed.specification, &handed.record);
                 Reply { unnumbered, ..handed_back(count, 0, |count| count.to_string()) }
             }
+            Line::Indexed(indexed) => indexed.answer(),
             Line::Spelt(_, line) => return line.answer(),
             Line::Remark(_) => return None,
         })
@@ -197,20 +200,20 @@ impl Line {
 }
 
 impl Nth {
-    fn text(&self, letter: char) -> Vec<u8> {
+    fn text(&self, letter: &str) -> Vec<u8> {
         judged(letter, &self.specification, &format!("{} {}", self.n, asked(&self.tape)))
     }
 }
 
 impl Handed {
-    fn text(&self, letter: char) -> Vec<u8> {
+    fn text(&self, letter: &str) -> Vec<u8> {
         let Handed { specification, room, first, record } = self;
         judged(letter, specification, &format!("{room} {first} {}", record_text(record)))
     }
 }
 
 impl Posed {
-    fn of(line: Line) -> Posed {
+    pub(super) fn of(line: Line) -> Posed {
         Posed { line, known: None }
     }
 
@@ -229,8 +232,19 @@ pub fn answered(text: &[u8], reply: Option<&Reply>) -> Vec<u8> {
     line
 }
 
+/// The letters that a line begins with.
+pub fn letters(text: &[u8]) -> String {
+    text.iter().take_while(|byte| byte.is_ascii_uppercase()).map(|&byte| char::from(byte)).collect()
+}
+
+/// The reply with a block as a record. A refusal hands back one with neither number nor word.
+pub(super) fn block_reply(block: Result<Block, Refusal>) -> Reply {
+    let none = Block { opening: Opening::BARE, words: Vec::new() };
+    handed_back(block, none, |block| record_text(&Record::from(&block)))
+}
+
 /// The reply of `result`, with `none` handed back where it is refused.
-fn handed_back<T>(result: Result<T, Refusal>, none: T, text: impl Fn(T) -> String) -> Reply {
+pub(super) fn handed_back<T>(result: Result<T, Refusal>, none: T, text: impl Fn(T) -> String) -> Reply {
     match result {
         Ok(value) => Reply::new(0, 0, &text(value)),
         Err(refusal) => {
@@ -247,18 +261,18 @@ fn formed(edition: u32, format: Result<Format, Refusal>) -> Reply {
 }
 
 /// A line on `rest`, judged by `specification`. A profile stands between bars; without one there are none.
-fn judged(letter: char, specification: &Specification, rest: &str) -> Vec<u8> {
+pub(super) fn judged(letter: &str, specification: &Specification, rest: &str) -> Vec<u8> {
     let Specification { edition, shorthand, profile } = specification;
     let bar: &[u8] = if profile.is_empty() { b"" } else { b"|" };
     [format!("{letter} {edition} ").as_bytes(), shorthand, bar, profile, bar, b" ", rest.as_bytes()].concat()
 }
 
 /// A tape as it is asked: the row of SP may stand as it is.
-fn asked(tape: &[u8]) -> String {
+pub(super) fn asked(tape: &[u8]) -> String {
     rows_text(tape).replace("\\160", " ")
 }
 
-fn rows_text(rows: &[u8]) -> String {
+pub(super) fn rows_text(rows: &[u8]) -> String {
     let mut text = String::with_capacity(2 * rows.len());
     for &row in rows {
         let Some(character) = character_text(row & 0x7F) else {
@@ -293,7 +307,7 @@ fn buffer_text(count: u64, buffer: &[u8]) -> String {
 }
 
 /// A record, with the places behind its count up to the last one that is not cleared.
-fn record_text(record: &Record) -> String {
+pub(super) fn record_text(record: &Record) -> String {
     let skip = if record.opening.skip { '/' } else { '-' };
     let letter = if record.opening.alignment { ':' } else { 'N' };
     let mut text = format!("{skip} {letter} {} {}", number_text(record.opening), record.count);
@@ -384,12 +398,12 @@ fn measuring(line: Line, known: Option<(u64, u64)>) -> [Posed; 2] {
 }
 
 /// Number and place, as an answer begins with them.
-fn told(refusal: Refusal) -> (u64, u64) {
+pub(super) fn told(refusal: Refusal) -> (u64, u64) {
     (u64::from(refusal.number), refusal.place)
 }
 
 /// Takes away what would end a damaged shorthand, a damaged profile or their line.
-fn make_sayable(specification: &mut Specification) {
+pub(super) fn make_sayable(specification: &mut Specification) {
     specification.shorthand.retain(|byte| !matches!(byte, b' ' | b'|' | b'\n'));
     specification.profile.retain(|byte| !matches!(byte, b'|' | b'\n'));
 }
@@ -502,10 +516,12 @@ fn number(Input { ask, known }: Input) -> Vec<Posed> {
     }
 }
 
-/// Lines that ask nothing, bars, speeds and missing numbers at their edges, and tapes whose lines are as long as may be, or one byte longer.
+/// Lines that ask nothing, bars, speeds, missing numbers and indexes at their edges, and tapes whose lines are as long as may be, or one byte longer.
 pub fn edges() -> Vec<Posed> {
-    let remarks = ["", "#", "# a remark", " B 1057 N3* %~", "b 1057 N3* %~", "BB 1057 N3* %~", "B1057 N3* %~", "1 2", "~"];
-    let mut lines: Vec<Line> = remarks.iter().map(|text| Line::Remark(text.as_bytes().to_vec())).collect();
+    let remarks =
+        ["", "#", "# a remark", " B 1057 N3* %~", "b 1057 N3* %~", "BBB 1057 N3* %~", "Bb 1057 N3* %~", "bB 1057 N3* %~"];
+    let short = ["B1057 N3* %~", "1 2", "~", "IN", "IN\t1 1", "I"];
+    let mut lines: Vec<Line> = remarks.iter().chain(&short).map(|text| Line::Remark(text.as_bytes().to_vec())).collect();
     for bytes in [MOST_BYTES - 1, MOST_BYTES, MOST_BYTES + 1, 2 * MOST_BYTES, 5 * MOST_BYTES] {
         let mut tape = vec![punched(b'%'), punched(LF)];
         tape.resize(bytes - "B 1057 N3* ".len(), NUL);
@@ -514,6 +530,7 @@ pub fn edges() -> Vec<Posed> {
     lines.extend(bars());
     lines.extend(spelt_speeds());
     lines.extend(spelt_numbers());
+    lines.extend(indexed::edges());
     lines.into_iter().map(Posed::of).collect()
 }
 
@@ -531,7 +548,7 @@ fn bars() -> Vec<Line> {
     ]
 }
 
-fn spelt(text: &'static str, line: Line) -> Line {
+pub(super) fn spelt(text: &'static str, line: Line) -> Line {
     Line::Spelt(text, Box::new(line))
 }
 
@@ -803,9 +820,10 @@ mod tests {
         for posed in edges() {
             let text = posed.line.text();
             let reply = posed.reply(&text);
-            let asks = ["B 1057 ", "B 2539 ", "G 2539 ", "C 2", "X 2 ", "J 2539 "]
-                .iter()
-                .any(|start| text.starts_with(start.as_bytes()));
+            let asks =
+                ["B 1057 ", "B 2539 ", "G 2539 ", "C 2", "X 2 ", "J 2539 ", "IB ", "IA ", "IO ", "IL ", "IW ", "IP ", "IN "]
+                    .iter()
+                    .any(|start| text.starts_with(start.as_bytes()));
             assert_eq!(reply.is_some(), asks && text.len() <= MOST_BYTES);
         }
     }

@@ -4,6 +4,8 @@
 pub mod chance;
 pub mod damage;
 pub mod door;
+pub mod growing;
+pub mod indexed;
 pub mod inputs;
 pub mod lines;
 pub mod misplaced;

@@ -58,9 +58,9 @@ fn one(chance: &mut Chance) -> (Handed, Known) {
 }
 
 /// A sound record and how many rows it needs.
-struct Sound {
-    record: Record,
-    needed: usize,
+pub(super) struct Sound {
+    pub record: Record,
+    pub needed: usize,
 }
 
 impl Sound {
@@ -73,7 +73,7 @@ impl Sound {
     }
 }
 
-fn sound(chance: &mut Chance, plan: &Plan) -> Sound {
+pub(super) fn sound(chance: &mut Chance, plan: &Plan) -> Sound {
     let opening = Opening {
         skip: chance.happens(1, 4),
         alignment: chance.happens(1, 4),
@@ -260,7 +260,7 @@ const FAULTS: &[Fault] = &[
     inexact_speed,
 ];
 
-fn one_fault(chance: &mut Chance, plan: &Plan, record: &mut Record) -> Result<u64, Refusal> {
+pub(super) fn one_fault(chance: &mut Chance, plan: &Plan, record: &mut Record) -> Result<u64, Refusal> {
     loop {
         let fault = chance.one_of(FAULTS);
         if let Some(refusal) = fault(chance, plan, record) {

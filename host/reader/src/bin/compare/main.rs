@@ -27,8 +27,8 @@ fn main() -> ExitCode {
     }
 }
 
-/// How often each number was seen, refusals 1 to 23 and success.
-type Seen = [u64; 24];
+/// How often each number was seen, refusals 1 to 25 and success.
+type Seen = [u64; 26];
 
 /// Makes the inputs of one batch from its seed.
 type Batch<'a, T> = Box<dyn Fn(u64) -> Vec<T> + Sync + 'a>;

@@ -1,6 +1,7 @@
-//! Line by line: what the program `vectors` answers for records, tapes, shorthands, speeds and heads.
+//! Line by line: what the program `vectors` answers for records, tapes, shorthands, speeds, heads, indexes and images.
 
 use super::{add, seen, seen_often, tell, worker_failed, Batch, Order, Seen, Turns};
+use second_opinion::trial::growing;
 use second_opinion::trial::lines::{self, Posed};
 use std::collections::BTreeMap;
 use std::error::Error;
@@ -9,24 +10,37 @@ use std::sync::Mutex;
 
 /// How many lines the program is started for, as an emulated one takes long to start.
 const BATCH: usize = 10_000;
-/// What must be seen of the answers to a kind of line, and how often.
-const LEAST: &[(u8, &[usize], u64)] = &[
-    (b'J', &[0, 1, 2, 3, 16, 17, 18, 19], 500),
-    (b'J', &[22, 23], 200),
-    (b'U', &[0, 1, 2, 3, 16, 17, 18], 100),
-    (b'V', &[0, 1, 2, 3, 16, 17, 18, 19], 100),
-    (b'W', &[0, 15], 100),
-    (b'P', &[0, 15], 100),
-    (b'F', &[0, 1, 2, 3], 100),
-    (b'G', &[0, 22, 23], 100),
-    (b'S', &[0, 13, 21], 100),
-    (b'C', &[0, 20, 21], 100),
-    (b'X', &[0, 18], 100),
+/// The letters of a kind of line, the numbers that must be seen among its answers, and how often each.
+type Due = (&'static str, &'static [usize], u64);
+/// What must be seen.
+const LEAST: &[Due] = &[
+    ("J", &[0, 1, 2, 3, 16, 17, 18, 19], 500),
+    ("J", &[22, 23], 200),
+    ("U", &[0, 1, 2, 3, 16, 17, 18], 100),
+    ("V", &[0, 1, 2, 3, 16, 17, 18, 19], 100),
+    ("W", &[0, 15], 100),
+    ("P", &[0, 15], 100),
+    ("F", &[0, 1, 2, 3], 100),
+    ("G", &[0, 22, 23], 100),
+    ("S", &[0, 13, 21], 100),
+    ("C", &[0, 20, 21], 100),
+    ("X", &[0, 18], 100),
+    ("IB", &[0, 24], 40),
+    ("IA", &[0, 16, 17, 19, 24], 40),
+    ("IA", &[2, 3, 5, 14, 18, 22], 10),
+    ("IO", &[0, 15], 40),
+    ("IO", &[2, 3, 5, 14, 22], 10),
+    ("IW", &[0, 15], 40),
+    ("IP", &[0, 15], 40),
+    ("IW", &[5, 7, 9, 11, 14], 10),
+    ("IP", &[5, 7, 9, 11, 14], 10),
+    ("IN", &[0, 25], 40),
+    ("IL", &[0, 4, 19, 24], 4),
 ];
 /// The same of lines that say or answer stop or rapid.
-const LEAST_NAMED: &[(u8, &[usize], u64)] = &[(b'J', &[0, 18], 100), (b'W', &[0], 10)];
+const LEAST_NAMED: &[Due] = &[("J", &[0, 18], 100), ("W", &[0], 10)];
 /// The same of records without number, with those 16 alone that are at 0.
-const LEAST_UNNUMBERED: &[(u8, &[usize], u64)] = &[(b'J', &[0, 16], 200), (b'J', &[17, 18, 19], 100), (b'U', &[0, 16], 40), (b'W', &[0], 20)];
+const LEAST_UNNUMBERED: &[Due] = &[("J", &[0, 16], 200), ("J", &[17, 18, 19], 100), ("U", &[0, 16], 40), ("W", &[0], 20)];
 
 pub fn compare(order: &Order) -> Result<bool, Box<dyn Error>> {
     let batches = batches(order.inputs);
@@ -45,14 +59,19 @@ pub fn compare(order: &Order) -> Result<bool, Box<dyn Error>> {
 
 /// The batches, each made when its turn comes: records, and a part as many tapes, shorthands, profiles and numbers.
 fn batches(records: usize) -> Vec<Batch<'static, Posed>> {
-    let mut batches: Vec<Batch<Posed>> =
-        vec![Box::new(|_| lines::edges()), Box::new(move |seed| lines::numbers(seed, records / 5))];
+    let mut batches: Vec<Batch<Posed>> = vec![
+        Box::new(|_| lines::edges()),
+        Box::new(|_| growing::limits()),
+        Box::new(move |seed| lines::numbers(seed, records / 5)),
+    ];
     for (make, size) in [
         (lines::punchings as fn(u64, usize) -> Vec<Posed>, records),
         (lines::measurings, records / 5),
         (lines::tapes, records / 5),
         (lines::formats, records / 10),
         (lines::agreements, records / 10),
+        (growing::images, records / 8),
+        (growing::refused, records / 20),
     ] {
         for first in (0..size).step_by(BATCH) {
             batches.push(Box::new(move |seed| make(seed, BATCH.min(size - first))));
@@ -86,11 +105,11 @@ fn names_a_speed(line: &[u8]) -> bool {
 /// What was seen of the answers, by the letters of the lines.
 #[derive(Default)]
 struct Tally {
-    seen: BTreeMap<u8, Seen>,
+    seen: BTreeMap<String, Seen>,
     /// those with stop or rapid in the line or its answer
-    named: BTreeMap<u8, Seen>,
+    named: BTreeMap<String, Seen>,
     /// those of records without number, but for 16 at a word
-    unnumbered: BTreeMap<u8, Seen>,
+    unnumbered: BTreeMap<String, Seen>,
     unasked: u64,
     differences: u64,
 }
@@ -102,10 +121,11 @@ impl Tally {
         match &reply {
             Some(reply) => {
                 let number = reply.number as usize;
-                self.seen.entry(text[0]).or_default()[number] += 1;
-                self.named.entry(text[0]).or_default()[number] += u64::from(names_a_speed(&reader));
+                let kind = || lines::letters(text);
+                self.seen.entry(kind()).or_default()[number] += 1;
+                self.named.entry(kind()).or_default()[number] += u64::from(names_a_speed(&reader));
                 let unnumbered = reply.unnumbered && (number != 16 || reply.place == 0);
-                self.unnumbered.entry(text[0]).or_default()[number] += u64::from(unnumbered);
+                self.unnumbered.entry(kind()).or_default()[number] += u64::from(unnumbered);
             }
             None => self.unasked += 1,
         }
@@ -124,7 +144,7 @@ impl Tally {
     fn add(&mut self, other: &Tally) {
         let Tally { seen, named, unnumbered, .. } = self;
         for (own, others) in [(seen, &other.seen), (named, &other.named), (unnumbered, &other.unnumbered)] {
-            others.iter().for_each(|(&letter, seen)| add(own.entry(letter).or_default(), seen));
+            others.iter().for_each(|(kind, seen)| add(own.entry(kind.clone()).or_default(), seen));
         }
         self.unasked += other.unasked;
         self.differences += other.differences;
@@ -133,19 +153,19 @@ impl Tally {
     fn report(&self) -> bool {
         let mut well = self.differences == 0;
         let mut total = self.unasked;
-        for (&letter, counts) in &self.seen {
+        for (kind, counts) in &self.seen {
             let asked: u64 = counts.iter().sum();
-            println!("{}: {asked}, seen {}", char::from(letter), seen(counts));
+            println!("{kind}: {asked}, seen {}", seen(counts));
             total += asked;
         }
-        for (kind, all, due) in [
+        for (which, all, due) in [
             ("", &self.seen, LEAST),
             (" with stop or rapid", &self.named, LEAST_NAMED),
             (" without number", &self.unnumbered, LEAST_UNNUMBERED),
         ] {
-            for &(letter, numbers, least) in due {
-                let counts = all.get(&letter).copied().unwrap_or_default();
-                well &= seen_often(&format!("{}{kind}", char::from(letter)), &counts, numbers, least);
+            for &(kind, numbers, least) in due {
+                let counts = all.get(kind).copied().unwrap_or_default();
+                well &= seen_often(&format!("{kind}{which}"), &counts, numbers, least);
             }
         }
         println!("{total} lines, {} differences", self.differences);
