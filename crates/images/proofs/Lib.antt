@@ -10,5 +10,6 @@ pub mod Shrinking
 pub mod Pasting
 pub mod Grown
 pub mod Shrunk
+pub mod PunchedAgain
 pub mod KeptRight
 pub mod MadeIndexes
