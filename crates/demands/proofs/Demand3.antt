@@ -24,6 +24,7 @@ use Rattle.reading.proofs.BlockWalk.{survey-refused}
 use Rattle.index.specs.Index.{Indexes, indexedFor, indexed}
 use Rattle.index.specs.Finding.{entryFound, blockFound, rowsFound}
 use Rattle.index.proofs.Lookups.{damaged as lookup-damaged}
+use Rattle.corrections.specs.Answers.{entryCorrected, placeCorrected, rowsCorrected}
 use Rattle.images.specs.Images.{appendFor, appended, lastFor, lastTaken}
 use Rattle.images.specs.Made.{Made}
 use Rattle.images.proofs.MadeIndexes.{made-right}
@@ -36,7 +37,8 @@ module _ (e : ℕ) (s p : List ℕ) where
   never-shared = one-program e s p
 
   -- every function that reads a tape refuses u by the number n at the place k, each by the definition that its promise cites: rows::check, parts::enter_tape,
-  -- reading::count_blocks with crumbtrellis_count_blocks, read_block, block_rows, index::build_index, images::append_block and take_off, and lines::count_listed
+  -- reading::count_blocks with crumbtrellis_count_blocks, read_block, block_rows, index::build_index, images::append_block and take_off, corrections::corrected_entry
+  -- and corrected_rows, as the correction and, behind one that is accepted, as the master, and lines::count_listed
   -- within its own limit of rows. pages::list_page asks for what is left of an accepted tape, which u is not. Through an index a block's own rows alone are judged:
   -- of these see `damage-found`. All else that is handed rows takes a step of a walk, behind one of these
   pub record Refused (u : List ℕ) (n k : ℕ) : Type 0 where
@@ -48,6 +50,8 @@ module _ (e : ℕ) (s p : List ℕ) where
     pub index : (firsts numbers : ℕ) → indexed e s p u firsts numbers ≡ refused n k
     pub append : (capacity firsts numbers : ℕ) (b : Block) → appended e s p u capacity firsts numbers b ≡ refused n k
     pub off : lastTaken e s p u ≡ refused n k
+    pub correction : (m : List ℕ) (i : ℕ) → (entryCorrected e s p u m i ≡ refused n k) × (rowsCorrected e s p u m i ≡ refused n k)
+    pub master : (c : List ℕ) {cs : List Entry} → readUnder e s p c ≡ taken cs → (i : ℕ) → (entryCorrected e s p c u i ≡ refused n k) × (rowsCorrected e s p c u i ≡ refused n k)
     pub listed : length u ≤ most → sizeOf (listedUnder e s p u) ≡ refused n k
     pub pages : (f : Format) (from : ℕ) (es : List Entry) → Remains f u from es → ⊥
 
@@ -60,7 +64,7 @@ module _ (e : ℕ) (s p : List ℕ) where
   -- refused for parity at the first of those rows."
   pub damage-refused : (t u : List ℕ) (bs : List Block) → TapeOf e s p bs t → Damaged t u
       → (i : ℕ) → i < length t → Changed (getD t i 0) (getD u i 0) → (k : ℕ) × First t u k × Refused u 5 k
-  unfolding readUnder read listedUnder indexed indexedFor appended appendFor lastTaken lastFor
+  unfolding readUnder read listedUnder indexed indexedFor appended appendFor lastTaken lastFor entryCorrected placeCorrected
   damage-refused t u bs h d i l c =
       let f = some-first t u (h .passes .even) d i l c in
       let j : judged u ≡ refused 5 (f .0) = damaged t u (h .passes .even) d (h .passes .short) (f .0) (f .1) in
@@ -78,6 +82,8 @@ module _ (e : ℕ) (s p : List ℕ) where
           index = λ firsts numbers. rw (g, j);
           append = λ capacity firsts numbers b. rw (g, survey-refused u (h .format) 5 (f .0) o);
           off = rw (g, survey-refused u (h .format) 5 (f .0) o);
+          correction = λ m i. (rw (g, j), rw (g, j));
+          master = λ c q i. let a = rw g at q in (rw (g, a, j), rw (g, a, j));
           listed = λ few. rw (g, le-leb (length u) most few, j);
           pages = λ f from es r. none-remains 5 _ o r;
         },

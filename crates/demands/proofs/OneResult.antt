@@ -18,6 +18,8 @@ use Rattle.punching.specs.declared.Punched.the-variants.{Rows}
 use Rattle.punching.specs.Answers.{measuredTold, punchedTold}
 use Rattle.index.specs.declared.Located.{Located}
 use Rattle.index.specs.Finding.{locatedTold}
+use Rattle.corrections.specs.declared.Corrected.{Corrected}
+use Rattle.corrections.specs.Answers.{correctedTold}
 use Rattle.images.specs.declared.Updated.{Updated}
 use Rattle.images.specs.Images.{updatedTold}
 
@@ -76,3 +78,10 @@ one-update r q = one updatedTold Updated.To Updated.Refused (case r) (case q)
     case : (r : Updated) → Case updatedTold Updated.To Updated.Refused r
     case (Updated.To i) = takes i refl
     case (Updated.Refused r) = refuses r refl
+
+pub one-entry : (r q : Corrected) → correctedTold r ≡ correctedTold q → r ≡ q
+one-entry r q = one correctedTold Corrected.Entry Corrected.Refused (case r) (case q)
+  where
+    case : (r : Corrected) → Case correctedTold Corrected.Entry Corrected.Refused r
+    case (Corrected.Entry x) = takes x refl
+    case (Corrected.Refused r) = refuses r refl

@@ -1,5 +1,5 @@
--- The table of refusals as relations: each number with its place and what calls for it (documents 01, "Refusal numbers", and 02, 5/12, 6/12 and
--- 7/12).
+-- The table of refusals as relations: each number with its place and what calls for it (documents 01, "Refusal numbers", and 02, 5/12 to
+-- 8/12).
 use Prim.Native.Nat.{ℕ, suc, _+_, _^_, _≤_, _<_}
 use mathlib.Core.Path.{_≡_}
 use mathlib.Core.Bool.{true, false}
@@ -12,9 +12,12 @@ use Rattle.shorthand.specs.declared.Format.{Format}
 use Rattle.profile.specs.Relation.{Settled, Unsettled}
 use Rattle.reading.specs.declared.Block.{Block}
 use Rattle.reading.specs.Record.{wordsOf}
-use Rattle.reading.specs.Answers.{counted}
+use Rattle.reading.specs.Parse.{Entry}
+use Rattle.reading.specs.Answers.{readUnder, counted}
 use Rattle.punching.specs.Rows.{rowsOf}
+use Rattle.index.specs.Index.{numbersOf}
 use Rattle.index.specs.Finding.{upTo}
+use Rattle.corrections.specs.Listing.{listing}
 use Rattle.places.specs.Faults.{RefusalOf}
 
 -- 4 to 14 of a tape under a shorthand and a profile that are in order: 4 to 7 by its rows, 8 to 14 by what its kept rows could still have become
@@ -81,6 +84,22 @@ pub data LookingUp (e : ℕ) (s p t firsts : List ℕ) (n : ℕ) : ℕ → ℕ �
   past : {f : Format} → Settled e s p f → length firsts ≤ n → LookingUp e s p t firsts n 15 (length firsts)
   own-rows : {f : Format} {m k : ℕ} → Settled e s p f → n < length firsts → RowRefusal (drop (getD firsts n 0) (upTo t firsts n)) m k → LookingUp e s p t firsts n m (getD firsts n 0 + k)
   own-block : {f : Format} {m k : ℕ} → Settled e s p f → n < length firsts → 8 ≤ m → m ≤ 14 → k ≤ length (upTo t firsts n) → LookingUp e s p t firsts n m k
+
+-- a correction tape and a master tape: the correction's own refusals, and then, where it is accepted, the master's
+pub data Correcting (e : ℕ) (s p c m : List ℕ) : ℕ → ℕ → Type 0 where
+  correction : {n k : ℕ} → Reading e s p c n k → Correcting e s p c m n k
+  master : {x n k : ℕ} → counted e s p c ≡ taken x → Reading e s p m n k → Correcting e s p c m n k
+
+-- entry n of their corrected listing: the same, and 15 at the number of its entries
+pub data Entering (e : ℕ) (s p c m : List ℕ) (n : ℕ) : ℕ → ℕ → Type 0 where
+  unread : {i k : ℕ} → Correcting e s p c m i k → Entering e s p c m n i k
+  past : {cs ms : List Entry} → readUnder e s p c ≡ taken cs → readUnder e s p m ≡ taken ms → length (listing (numbersOf cs) (numbersOf ms)) ≤ n
+      → Entering e s p c m n 15 (length (listing (numbersOf cs) (numbersOf ms)))
+
+-- the rows of a number on either: the same, and 25 at 0
+pub data Asking (e : ℕ) (s p c m : List ℕ) : ℕ → ℕ → Type 0 where
+  unread : {i k : ℕ} → Correcting e s p c m i k → Asking e s p c m i k
+  neither : Asking e s p c m 25 0
 
 -- no block has the number
 pub data Seeking : ℕ → ℕ → Type 0 where
