@@ -49,7 +49,7 @@ fn is_bare(list: &[u8]) -> bool {
 }
 
 // A number, or the mark.
-fn marked_of(text: &[u8]) -> u64 {
+pub fn marked_of(text: &[u8]) -> u64 {
     if first_of(text) == b'-' {
         return NO_NUMBER;
     }
@@ -100,7 +100,7 @@ fn firsts_of(list: &[u8], firsts: &mut [usize]) -> usize
 }
 
 // The numbers in a list, as many as there are places for.
-fn numbers_of(list: &[u8], numbers: &mut [u64]) -> usize
+pub fn numbers_of(list: &[u8], numbers: &mut [u64]) -> usize
     ensures { λ r. ⌜ r ≤ length (now (numbers .exit)) ⌝ }
 {
     if is_bare(list) {

@@ -5,6 +5,7 @@ ghost use lib.ListN.{length};
 mod answers;
 mod asked;
 mod block_cases;
+mod correction_cases;
 mod index_cases;
 mod line_cases;
 mod punch_cases;
@@ -105,6 +106,23 @@ fn answer_index(
     }
 }
 
+// What is asked of correction tapes.
+fn answer_corrections(
+    letter: u8,
+    asked: &[u8],
+    tape: &mut [u8],
+    buffer: &mut [u8],
+    out: &mut [u8],
+    at: usize,
+) -> usize {
+    match letter {
+        b'P' => correction_cases::part_of(asked, tape, buffer, out, at),
+        b'E' => correction_cases::entry(asked, tape, buffer, out, at),
+        b'I' => correction_cases::indexed(asked, out, at),
+        _ => at,
+    }
+}
+
 fn is_capital(c: u8) -> bool {
     b'A' <= c && c <= b'Z'
 }
@@ -158,10 +176,13 @@ fn answer_pair(
     if line.len() < 3 {
         return at;
     }
-    if line[0] != b'I' {
-        return at;
+    let letter = line[1];
+    let asked = &line[3..];
+    match line[0] {
+        b'I' => answer_index(letter, asked, tape, buffer, out, at),
+        b'C' => answer_corrections(letter, asked, tape, buffer, out, at),
+        _ => at,
     }
-    answer_index(line[1], &line[3..], tape, buffer, out, at)
 }
 
 // A line and, where it is asked, the answer behind it; the end of one that is too long is plain.
