@@ -131,14 +131,14 @@ impl Places {
 }
 
 /// A list as it is asked and answered: `-` is the mark, and `.` a list without entries.
-fn list_text(list: &[u64]) -> String {
+pub(super) fn list_text(list: &[u64]) -> String {
     if list.is_empty() {
         return ".".into();
     }
     list.iter().map(|&entry| number_text(entry)).collect::<Vec<_>>().join(",")
 }
 
-fn number_text(number: u64) -> String {
+pub(super) fn number_text(number: u64) -> String {
     match number {
         MARK => "-".into(),
         _ => number.to_string(),

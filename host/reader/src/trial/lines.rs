@@ -1,12 +1,14 @@
 //! Asking the library by lines of text, as crates/vectors/LINES.md has them, and what the reader answers.
 
 use super::chance::Chance;
+use super::corrected::{self, Corrected};
 use super::indexed::{self, Indexed};
 use super::inputs::{self, bad_text, either_edition, lent, strange_edition, Ask, Input};
 use super::misplaced::{self, Slipped};
 use super::profiles;
 use super::programs;
 use super::records::{self, Handed};
+use crate::corrections::Tape;
 use crate::punching::{punch_head, Record, Word, CLEARED};
 use crate::reading::{block_rows, read_block, Block, Opening, Value};
 use crate::rows::{punched, CR, DEL, HT, LF, NUL};
@@ -77,6 +79,8 @@ pub enum Line {
     Write(Box<Handed>),
     /// a line of two letters: the index of a tape's blocks, and the image that it is kept with
     Indexed(Box<Indexed>),
+    /// the same: a correction tape beside its master
+    Corrected(Box<Corrected>),
     /// a line that is spelt as it would not be by itself
     Spelt(&'static str, Box<Line>),
     /// a line that asks nothing
@@ -109,19 +113,21 @@ pub struct Reply {
     pub place: u64,
     /// whether a record without number was punched or read
     pub unnumbered: bool,
+    /// of two tapes, the one that is refused
+    pub refused: Option<Tape>,
     /// what is written behind the arrow: number and place, but for X, and what is handed back, on a refusal too
     written: String,
 }
 
 impl Reply {
     pub(super) fn new(number: u64, place: u64, handed: &str) -> Reply {
-        Reply { number, place, unnumbered: false, written: format!("{number} {place} {handed}") }
+        Reply { number, place, unnumbered: false, refused: None, written: format!("{number} {place} {handed}") }
     }
 
     /// The code where there is one. Where there is none, a record is refused with 18.
     fn exact(code: Option<u64>) -> Reply {
         let number = if code.is_some() { 0 } else { 18 };
-        Reply { number, place: 0, unnumbered: false, written: code.map_or(String::new(), |code| code.to_string()) }
+        Reply { number, place: 0, unnumbered: false, refused: None, written: code.map_or(String::new(), |code| code.to_string()) }
     }
 }
 
@@ -151,6 +157,7 @@ impl Line {
             Line::Measure(handed) => judged("U", &handed.specification, &record_text(&handed.record)),
             Line::Write(handed) => handed.text("V"),
             Line::Indexed(indexed) => indexed.text(),
+            Line::Corrected(corrected) => corrected.text(),
             Line::Spelt(text, _) => text.as_bytes().to_vec(),
             Line::Remark(text) => text.clone(),
         }
@@ -193,6 +200,7 @@ impl Line {
                 Reply { unnumbered, ..handed_back(count, 0, |count| count.to_string()) }
             }
             Line::Indexed(indexed) => indexed.answer(),
+            Line::Corrected(corrected) => corrected.answer(),
             Line::Spelt(_, line) => return line.answer(),
             Line::Remark(_) => return None,
         })
@@ -516,11 +524,11 @@ fn number(Input { ask, known }: Input) -> Vec<Posed> {
     }
 }
 
-/// Lines that ask nothing, bars, speeds, missing numbers and indexes at their edges, and tapes whose lines are as long as may be, or one byte longer.
+/// Lines that ask nothing, bars, speeds, missing numbers, indexes and pairs of tapes at their edges, and tapes whose lines are as long as may be, or one byte longer.
 pub fn edges() -> Vec<Posed> {
     let remarks =
         ["", "#", "# a remark", " B 1057 N3* %~", "b 1057 N3* %~", "BBB 1057 N3* %~", "Bb 1057 N3* %~", "bB 1057 N3* %~"];
-    let short = ["B1057 N3* %~", "1 2", "~", "IN", "IN\t1 1", "I"];
+    let short = ["B1057 N3* %~", "1 2", "~", "IN", "IN\t1 1", "I", "CI", "CP", "Ce 1"];
     let mut lines: Vec<Line> = remarks.iter().chain(&short).map(|text| Line::Remark(text.as_bytes().to_vec())).collect();
     for bytes in [MOST_BYTES - 1, MOST_BYTES, MOST_BYTES + 1, 2 * MOST_BYTES, 5 * MOST_BYTES] {
         let mut tape = vec![punched(b'%'), punched(LF)];
@@ -531,6 +539,7 @@ pub fn edges() -> Vec<Posed> {
     lines.extend(spelt_speeds());
     lines.extend(spelt_numbers());
     lines.extend(indexed::edges());
+    lines.extend(corrected::edges());
     lines.into_iter().map(Posed::of).collect()
 }
 
@@ -820,10 +829,9 @@ mod tests {
         for posed in edges() {
             let text = posed.line.text();
             let reply = posed.reply(&text);
-            let asks =
-                ["B 1057 ", "B 2539 ", "G 2539 ", "C 2", "X 2 ", "J 2539 ", "IB ", "IA ", "IO ", "IL ", "IW ", "IP ", "IN "]
-                    .iter()
-                    .any(|start| text.starts_with(start.as_bytes()));
+            let one = ["B 1057 ", "B 2539 ", "G 2539 ", "C 2", "X 2 ", "J 2539 "];
+            let two = ["IB ", "IA ", "IO ", "IL ", "IW ", "IP ", "IN ", "CP ", "CE ", "CI "];
+            let asks = one.iter().chain(&two).any(|start| text.starts_with(start.as_bytes()));
             assert_eq!(reply.is_some(), asks && text.len() <= MOST_BYTES);
         }
     }

@@ -2,6 +2,8 @@
 //! the C host, and the lines that ask the library.
 
 pub mod chance;
+pub mod corrected;
+pub mod correcting;
 pub mod damage;
 pub mod door;
 pub mod growing;

@@ -202,11 +202,20 @@ pub(super) struct Punch<'c> {
     strewn: usize,
     /// how many chances of 64 to break a rule are taken; 0 for a sound tape
     slips: usize,
+    /// what sequence numbers are drawn from; where there are none, any may stand
+    numbers: Vec<u64>,
 }
 
 /// A sound tape of `most` blocks or fewer.
 pub fn tape(chance: &mut Chance, plan: &Plan, most: usize) -> Tape {
     punched_tape(chance, plan, most, 0)
+}
+
+/// The same with no sequence numbers but those of `numbers`.
+pub(super) fn tape_of(chance: &mut Chance, plan: &Plan, most: usize, numbers: &[u64]) -> Tape {
+    let mut punch = Punch::begun(chance, 0);
+    punch.numbers = numbers.to_vec();
+    finished(punch, plan, most)
 }
 
 /// Rows that break the rules of words, signs, speeds, tabs and ends here and there.
@@ -215,7 +224,10 @@ pub fn slipped_rows(chance: &mut Chance, plan: &Plan, most: usize) -> Vec<u8> {
 }
 
 fn punched_tape(chance: &mut Chance, plan: &Plan, most: usize, slips: usize) -> Tape {
-    let mut punch = Punch::begun(chance, slips);
+    finished(Punch::begun(chance, slips), plan, most)
+}
+
+fn finished(mut punch: Punch, plan: &Plan, most: usize) -> Tape {
     let blocks = blocks(&mut punch, plan, most);
     if punch.chance.happens(1, 3) {
         punch.strew();
@@ -225,7 +237,7 @@ fn punched_tape(chance: &mut Chance, plan: &Plan, most: usize, slips: usize) -> 
 
 /// A sound tape of exactly `length` rows or a few more than one block fewer, filled up with NUL.
 pub fn long_tape(chance: &mut Chance, plan: &Plan, length: usize) -> Tape {
-    let mut punch = Punch { chance, rows: Vec::with_capacity(length + 4096), strewn: 1, slips: 0 };
+    let mut punch = Punch { chance, rows: Vec::with_capacity(length + 4096), strewn: 1, slips: 0, numbers: Vec::new() };
     punch.character(b'%');
     punch.end();
     let mut blocks = Vec::new();
@@ -279,7 +291,7 @@ fn opening(punch: &mut Punch, plan: &Plan, worded: bool) -> Opening {
     }
     let alignment = punch.chance.happens(1, 4);
     punch.character(if alignment { b':' } else { b'N' });
-    Opening { skip, alignment, ..Opening::numbered(punch.digits(plan.sequence)) }
+    Opening { skip, alignment, ..Opening::numbered(punch.sequence(plan.sequence)) }
 }
 
 fn word(punch: &mut Punch, made: Made, edition: u32) -> Value {
@@ -311,7 +323,7 @@ impl<'c> Punch<'c> {
     /// Perhaps a leader, and the head.
     pub fn begun(chance: &'c mut Chance, slips: usize) -> Punch<'c> {
         let strewn = chance.one_of(&[0, 0, 1, 4, 24]);
-        let mut punch = Punch { chance, rows: Vec::new(), strewn, slips };
+        let mut punch = Punch { chance, rows: Vec::new(), strewn, slips, numbers: Vec::new() };
         if punch.chance.happens(1, 3) {
             let leader = punch.chance.below(8);
             punch.rows.extend(vec![NUL; leader]);
@@ -390,6 +402,16 @@ impl<'c> Punch<'c> {
             }
             _ => {}
         }
+    }
+
+    /// A sequence number in `count` digits.
+    fn sequence(&mut self, count: usize) -> u64 {
+        if self.numbers.is_empty() {
+            return self.digits(count);
+        }
+        let number = self.numbers[self.chance.below(self.numbers.len())];
+        format!("{number:0count$}").bytes().for_each(|digit| self.character(digit));
+        number
     }
 
     /// `count` digits: any, or all of one kind, or zeros at one end.

@@ -1,6 +1,8 @@
-//! Line by line: what the program `vectors` answers for records, tapes, shorthands, speeds, heads, indexes and images.
+//! Line by line: what the program `vectors` answers for records, tapes, shorthands, speeds, heads, indexes, images and corrections.
 
 use super::{add, seen, seen_often, tell, worker_failed, Batch, Order, Seen, Turns};
+use second_opinion::corrections::Tape;
+use second_opinion::trial::correcting;
 use second_opinion::trial::growing;
 use second_opinion::trial::lines::{self, Posed};
 use std::collections::BTreeMap;
@@ -36,11 +38,18 @@ const LEAST: &[Due] = &[
     ("IP", &[5, 7, 9, 11, 14], 10),
     ("IN", &[0, 25], 40),
     ("IL", &[0, 4, 19, 24], 4),
+    ("CP", &[0, 25], 100),
+    ("CE", &[0, 15], 100),
+    ("CI", &[0, 15], 100),
+    ("CP", &[1, 2, 3, 22, 23], 4),
+    ("CE", &[1, 2, 3, 22, 23], 4),
 ];
 /// The same of lines that say or answer stop or rapid.
 const LEAST_NAMED: &[Due] = &[("J", &[0, 18], 100), ("W", &[0], 10)];
 /// The same of records without number, with those 16 alone that are at 0.
 const LEAST_UNNUMBERED: &[Due] = &[("J", &[0, 16], 200), ("J", &[17, 18, 19], 100), ("U", &[0, 16], 40), ("W", &[0], 20)];
+/// The same of two tapes: what the one must be refused with, and the other.
+const LEAST_REFUSED: &[Due] = &[("CP", &[5, 6, 7, 8, 9, 10, 11, 14], 4), ("CE", &[5, 6, 7, 8, 9, 10, 11, 14], 4)];
 
 pub fn compare(order: &Order) -> Result<bool, Box<dyn Error>> {
     let batches = batches(order.inputs);
@@ -72,6 +81,8 @@ fn batches(records: usize) -> Vec<Batch<'static, Posed>> {
         (lines::agreements, records / 10),
         (growing::images, records / 8),
         (growing::refused, records / 20),
+        (correcting::corrections, records / 20),
+        (correcting::refused, records / 20),
     ] {
         for first in (0..size).step_by(BATCH) {
             batches.push(Box::new(move |seed| make(seed, BATCH.min(size - first))));
@@ -110,6 +121,10 @@ struct Tally {
     named: BTreeMap<String, Seen>,
     /// those of records without number, but for 16 at a word
     unnumbered: BTreeMap<String, Seen>,
+    /// those that are refused for the correction of two tapes
+    correction: BTreeMap<String, Seen>,
+    /// those that are refused for the master
+    master: BTreeMap<String, Seen>,
     unasked: u64,
     differences: u64,
 }
@@ -126,6 +141,8 @@ impl Tally {
                 self.named.entry(kind()).or_default()[number] += u64::from(names_a_speed(&reader));
                 let unnumbered = reply.unnumbered && (number != 16 || reply.place == 0);
                 self.unnumbered.entry(kind()).or_default()[number] += u64::from(unnumbered);
+                self.correction.entry(kind()).or_default()[number] += u64::from(reply.refused == Some(Tape::Correction));
+                self.master.entry(kind()).or_default()[number] += u64::from(reply.refused == Some(Tape::Master));
             }
             None => self.unasked += 1,
         }
@@ -142,8 +159,14 @@ impl Tally {
     }
 
     fn add(&mut self, other: &Tally) {
-        let Tally { seen, named, unnumbered, .. } = self;
-        for (own, others) in [(seen, &other.seen), (named, &other.named), (unnumbered, &other.unnumbered)] {
+        let Tally { seen, named, unnumbered, correction, master, .. } = self;
+        for (own, others) in [
+            (seen, &other.seen),
+            (named, &other.named),
+            (unnumbered, &other.unnumbered),
+            (correction, &other.correction),
+            (master, &other.master),
+        ] {
             others.iter().for_each(|(kind, seen)| add(own.entry(kind.clone()).or_default(), seen));
         }
         self.unasked += other.unasked;
@@ -162,6 +185,8 @@ impl Tally {
             ("", &self.seen, LEAST),
             (" with stop or rapid", &self.named, LEAST_NAMED),
             (" without number", &self.unnumbered, LEAST_UNNUMBERED),
+            (" with a refused correction", &self.correction, LEAST_REFUSED),
+            (" with a refused master", &self.master, LEAST_REFUSED),
         ] {
             for &(kind, numbers, least) in due {
                 let counts = all.get(kind).copied().unwrap_or_default();
