@@ -8,18 +8,18 @@ ghost use Rattle.shorthand.specs.Facts.{Facts};
 ghost use Rattle.reading.specs.Parse.{Entry};
 ghost use Rattle.reading.specs.Answers.{countTold, sizeOf};
 ghost use Rattle.reading.specs.Remains.{Remains};
-ghost use Rattle.io.specs.Counts.{Counts};
 ghost use Rattle.lines.specs.Listing.{listedUnder};
-use libc::ENAMETOOLONG;
 use libc::STDIN_FILENO;
 use libc::STDOUT_FILENO;
-use lines::Printed;
 use lines::input::count_listed;
 use lines::input::read_header;
 use pages::Page;
 use pages::list_page;
 use parts::EndRead;
 use parts::ends::enter_tape;
+use printing::argument_space;
+use printing::read_profile;
+use printing::write_last;
 use reading::Counted;
 use rows::Checked;
 use shorthand::Format;
@@ -29,25 +29,6 @@ fn input_space() -> [u8; 60201]
     ensures { λ r. ⌜ 60201 ≡ length r ⌝ }
 {
     [0; 60201]
-}
-
-// The bytes of the argument that are looked at. A profile in form has at most 10 bytes, so a longer text is out of form, and its first wrong byte is
-// among its first 11: the first 32 bytes of it are refused by 22 at the same place (`cut-argument` of proofs/Argument.antt, for every argument).
-fn argument_space() -> [u8; 32]
-    ensures { λ r. ⌜ 32 ≡ length r ⌝ }
-{
-    [0; 32]
-}
-
-// How many bytes of the buffer are the profile: none without an argument, and all where the argument is longer, since then its first bytes fill it.
-fn read_profile(buffer: &mut [u8]) -> usize
-    ensures { λ r. ⌜ Counts r (now (buffer .exit)) ⌝ }
-{
-    let n = os::arg(1, buffer);
-    if os::errno() == ENAMETOOLONG {
-        return buffer.len();
-    }
-    n
 }
 
 // The lines of so many blocks of an accepted tape from a row on, page by page.
@@ -94,15 +75,6 @@ fn write_blocks(
         return;
     };
     write_pages(tape, format, lf + 1, n, out);
-}
-
-fn write_last(count: Counted, out: &mut [u8]) {
-    match lines::last_line(count, out) {
-        Printed::Bytes(n) => {
-            io::write_all(STDOUT_FILENO, &out[..n]);
-        }
-        Printed::Refused(_) => {}
-    }
 }
 
 fn list_input(input: &[u8], profile: &[u8], out: &mut [u8]) {

@@ -1,4 +1,4 @@
--- The program looks at the first 32 bytes of its argument. No form has as many places, so the answer is the whole argument's.
+-- A program looks at the first 32 bytes of its argument. No form has as many places, so the answer is the whole argument's.
 use Prim.Native.Nat.{ℕ, zero, suc, _<_}
 use native.Mathlib.Omega.{arith}
 use mathlib.Core.Path.{_≡_, refl, ap}
@@ -32,7 +32,8 @@ cut-profile e f (b ∷ p) = ap (λ a. a >>= λ bs. heldTo f (saidIn e bs)) (cut-
     few Iso1057 = omega arith
     few Iso2539 = omega arith
 
-cut-agreed : (e : ℕ) (s p : List ℕ) → agreed e s (take 32 p) ≡ agreed e s p
+-- what is agreed on with the first 32 bytes of a profile is what is agreed on with all of it
+pub cut-agreed : (e : ℕ) (s p : List ℕ) → agreed e s (take 32 p) ≡ agreed e s p
 unfolding agreed
 cut-agreed e s p = by (parsed e s)
   where

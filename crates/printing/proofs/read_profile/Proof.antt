@@ -1,11 +1,11 @@
--- `listing::read_profile` is safe: the profile is within the buffer.
+-- `printing::read_profile` is safe: the profile is within the buffer.
 use borrow.Author.Needs.{needs}
 use mathlib.Core.Path.{sym}
 use native.Mathlib.Nat.{le-refl}
 use lib.ListN.{length}
 use lib.Seq.{length-take-le}
-use Rattle.listing.proofs.read_profile.Statement.{statement}
-use Rattle.listing.proofs.read_profile.Tie as tie
+use Rattle.printing.proofs.read_profile.Statement.{statement}
+use Rattle.printing.proofs.read_profile.Tie as tie
 
 arg-requires : tie.Need-arg-requires
 arg-requires c κs = search needs

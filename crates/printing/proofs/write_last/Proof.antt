@@ -1,9 +1,9 @@
--- `listing::write_last` is safe: the line is within the buffer.
+-- `printing::write_last` is safe: the line is within the buffer.
 use lib.Seq.{length-take-le}
 use native.Mathlib.Omega.{arith}
 use borrow.Author.Needs.{needs}
-use Rattle.listing.proofs.write_last.Statement.{statement}
-use Rattle.listing.proofs.write_last.Tie as tie
+use Rattle.printing.proofs.write_last.Statement.{statement}
+use Rattle.printing.proofs.write_last.Tie as tie
 
 last-line-requires : tie.Need-last-line-requires
 last-line-requires c κs = search needs

@@ -1,2 +1,0 @@
--- The law of the program's argument.
-pub mod Argument
