@@ -32,7 +32,7 @@ fn master_entry(correction: &[u64], master: &[u64], n: usize) -> Named
 }
 
 // Whether the correction's block n has an entry of its own.
-fn is_new(correction: &[u64], master: &[u64], n: usize) -> bool
+pub fn is_new(correction: &[u64], master: &[u64], n: usize) -> bool
     ensures { λ r. ⌜ r ≡ isNew (now (correction .entry)) (now (master .entry)) n ⌝ }
 {
     let q = number_at(correction, n);

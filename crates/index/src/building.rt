@@ -88,7 +88,7 @@ fn fill_index(tape: &[u8], format: Format, first: usize, firsts: &mut [usize], n
 }
 
 // The index of a tape under a Format: nothing is written before every refusal is excluded.
-pub(crate) fn build_under(
+pub fn build_under(
     tape: &[u8],
     format: Format,
     firsts: &mut [usize],

@@ -46,7 +46,7 @@ fn own_entry(tape: &[u8], format: Format, first: usize) -> EntryAnswer
 }
 
 // Entry n by the first rows of all blocks.
-pub(crate) fn find_entry(tape: &[u8], format: Format, firsts: &[usize], n: usize) -> EntryAnswer
+pub fn find_entry(tape: &[u8], format: Format, firsts: &[usize], n: usize) -> EntryAnswer
     requires { ⌜ Facts format ⌝ }
     ensures { λ r. ⌜ r ≡ entryAnswer (entryBy format (now (tape .entry)) (now (firsts .entry)) n) ⌝ }
 {
