@@ -1,7 +1,8 @@
 // Lists a corrected program: a line for each entry of the corrected listing, and their count.
 // Standard input holds the edition, a space, the shorthand, a space, the number of the correction's rows, a space, the number of the master's, LF, and then the rows
 // of the correction and those of the master. Where the counts are not there, or are not those of the rows behind the header, the answer is 1 at 0; a tape of more than
-// 60,000 rows is refused by 4 at 60,000, in its turn. The first argument, where there is one, is the profile.
+// 60,000 rows is refused by 4 at 60,000, in its turn. The first argument, where there is one, is the profile. No more than 120,201 bytes are read: an input that is
+// longer has too many rows, and is refused by 1, its rows being fewer than said, or by 4.
 // The lines are made by `printing`, the entries are found by `corrections`; the proofs of the program's own functions are of safety alone.
 ghost use mathlib.Core.Path.{_≡_};
 ghost use Prim.Native.Nat.{_≤_};

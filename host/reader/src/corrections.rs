@@ -36,7 +36,7 @@ struct Roll {
 
 impl Visitor for Roll {
     fn block(&mut self, opening: Opening) {
-        self.numbers.push(opening.numbered.then_some(opening.sequence));
+        self.numbers.push(opening.number());
     }
     fn word(&mut self, _: u8, _: Value) {}
     fn end(&mut self, after: usize) {
@@ -80,7 +80,7 @@ pub fn rows<'t>(format: &Format, correction: &'t [u8], master: &'t [u8], number:
 }
 
 /// The corrected listing, by the numbers of both tapes' blocks.
-fn listing(correction: &[Option<u64>], master: &[Option<u64>]) -> Vec<Entry> {
+pub(crate) fn listing(correction: &[Option<u64>], master: &[Option<u64>]) -> Vec<Entry> {
     let (new, old) = (firsts(correction), firsts(master));
     let mut entries: Vec<Entry> = (0..master.len()).map(|block| Entry { tape: Tape::Master, block }).collect();
     let mut added = Vec::new();

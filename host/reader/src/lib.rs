@@ -6,6 +6,7 @@
 #![forbid(unsafe_code)]
 #![warn(missing_docs)]
 
+pub mod corrected;
 pub mod corrections;
 pub mod index;
 pub mod listing;

@@ -4,12 +4,13 @@ use crate::reading::{self, Block};
 use crate::shorthand::Format;
 use crate::specification::Specification;
 use crate::Refusal;
+use std::borrow::Borrow;
 use std::fmt::Write;
 
 /// LF must stand within this many bytes.
-const HEADER: usize = 200;
-/// The most rows that the listing program takes.
-const MOST_ROWS: usize = 60_000;
+pub(crate) const HEADER: usize = 200;
+/// The most rows of a tape that a program that lists takes.
+pub(crate) const MOST_ROWS: usize = 60_000;
 
 /// The whole output for `input` on the standard input, and `profile` as the first argument; no bytes where there is none.
 pub fn listing(input: &[u8], profile: &[u8]) -> String {
@@ -20,10 +21,10 @@ pub fn listing(input: &[u8], profile: &[u8]) -> String {
 }
 
 /// The output for blocks whose sequence numbers have `digits` digits.
-pub fn text(digits: u32, blocks: &[Block]) -> String {
+pub fn text(digits: u32, blocks: &[impl Borrow<Block>]) -> String {
     let mut text = String::new();
     for block in blocks {
-        line(&mut text, digits as usize, block);
+        line(&mut text, digits as usize, block.borrow());
     }
     text += &format!("blocks {}\n", blocks.len());
     text
@@ -43,16 +44,22 @@ fn line(text: &mut String, digits: usize, block: &Block) {
 fn blocks(input: &[u8], profile: &[u8]) -> Result<(Format, Vec<Block>), Refusal> {
     let (edition, shorthand, rows) = header(input).ok_or(Refusal::new(1, 0))?;
     let format = Specification::new(edition, shorthand, profile).format()?;
+    let blocks = blocks_on(&format, rows)?;
+    Ok((format, blocks))
+}
+
+/// The blocks on a tape that is to be listed.
+pub(crate) fn blocks_on(format: &Format, rows: &[u8]) -> Result<Vec<Block>, Refusal> {
     if rows.len() > MOST_ROWS {
         return Err(Refusal::new(4, MOST_ROWS));
     }
     let mut blocks = Vec::new();
-    reading::read(&format, rows, &mut blocks)?;
-    Ok((format, blocks))
+    reading::read(format, rows, &mut blocks)?;
+    Ok(blocks)
 }
 
-/// The edition, the shorthand and the rows; none where the header is at fault.
-fn header(input: &[u8]) -> Option<(u32, &[u8], &[u8])> {
+/// The edition, what stands behind it, and the rows; none where there is no header of an edition.
+pub(crate) fn header(input: &[u8]) -> Option<(u32, &[u8], &[u8])> {
     let end = input.iter().take(HEADER).position(|&byte| byte == b'\n')?;
     let (line, rows) = (&input[..end], &input[end + 1..]);
     let space = line.iter().position(|&byte| byte == b' ')?;

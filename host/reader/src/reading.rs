@@ -27,6 +27,11 @@ impl Opening {
     pub fn numbered(sequence: u64) -> Opening {
         Opening { numbered: true, sequence, ..Opening::BARE }
     }
+
+    /// The number, if there is one.
+    pub fn number(&self) -> Option<u64> {
+        self.numbered.then_some(self.sequence)
+    }
 }
 
 /// The value of a word.

@@ -8,13 +8,17 @@ use super::lines::{make_sayable, told, Line, Posed};
 use super::profiles;
 use super::programs::{self, Plan, Tape};
 use crate::index::MARK;
+use crate::reading::Block;
 use crate::rows::{punched, LF};
 use crate::specification::Specification;
 
 /// A tape of more rows is not asked for twice in one line.
 const MOST_TWICE: usize = 2_000;
 
-fn posed(corrected: Corrected, known: Option<(u64, u64)>) -> Posed {
+/// Number and place, where they are known from the making.
+pub(super) type Known = Option<(u64, u64)>;
+
+fn posed(corrected: Corrected, known: Known) -> Posed {
     Posed { line: Line::Corrected(Box::new(corrected)), known }
 }
 
@@ -25,7 +29,10 @@ pub fn corrections(seed: u64, size: usize) -> Vec<Posed> {
     while lines.len() < size {
         let made = Made::drawn(chance);
         match chance.below(8) {
-            0 => made.other_specification(chance, &mut lines),
+            0 => {
+                let (pair, known) = made.other_specification(chance);
+                lines.push(made.either(chance, pair, known));
+            }
             1 | 2 => made.damaged(chance, &mut lines),
             _ => made.sound(chance, &mut lines),
         }
@@ -34,42 +41,57 @@ pub fn corrections(seed: u64, size: usize) -> Vec<Posed> {
     lines
 }
 
+/// Whether the correction is harmed, and whether the master is.
+pub(super) const HARMED: [[bool; 2]; 3] = [[true, false], [false, true], [true, true]];
+
 /// Two sound tapes, and what is on them.
-struct Made {
-    plan: Plan,
-    pair: Pair,
-    /// the numbers of the correction's blocks, and of the master's, with the mark for a missing one
+pub(super) struct Made {
+    pub plan: Plan,
+    pub pair: Pair,
+    /// the correction's blocks, and the master's
+    blocks: [Vec<Block>; 2],
+    /// their numbers, with the mark for a missing one
     numbers: [Vec<u64>; 2],
 }
 
 impl Made {
-    fn drawn(chance: &mut Chance) -> Made {
+    pub fn drawn(chance: &mut Chance) -> Made {
         let mut plan = programs::plan(chance);
         make_sayable(&mut plan.specification);
         let shared = pool(chance, &plan, 4);
-        let [correction, master] = [5, 8].map(|most| {
+        let tapes = [5, 8].map(|most| {
             let own = pool(chance, &plan, 3);
             // from those that may be on both tapes, and those that are hardly on the other
             let numbers = if chance.happens(1, 8) { own } else { [&shared[..], &own].concat() };
             programs::tape_of(chance, &plan, most, &numbers)
         });
+        Made::of(plan, tapes)
+    }
+
+    /// A correction and a master, both of that plan.
+    pub fn of(plan: Plan, [correction, master]: [Tape; 2]) -> Made {
         let numbers = [numbers_of(&correction), numbers_of(&master)];
         let pair = Pair { specification: plan.specification.clone(), correction: correction.rows, master: master.rows };
-        Made { plan, pair, numbers }
+        Made { plan, pair, blocks: [correction.blocks, master.blocks], numbers }
     }
 
     fn stands(&self, number: u64) -> bool {
         number != MARK && self.numbers.iter().any(|numbers| numbers.contains(&number))
     }
 
-    /// How many entries the corrected listing has: the master's blocks, and the numbers that are not on it.
-    fn entries(&self) -> u64 {
+    /// The corrected listing: the master's blocks with the altered ones for them, and those whose numbers are not on it.
+    pub fn listing(&self) -> Vec<&Block> {
         let [correction, master] = &self.numbers;
-        let mut only: Vec<u64> = correction.clone();
-        only.retain(|number| *number != MARK && !master.contains(number));
-        only.sort_unstable();
-        only.dedup();
-        (master.len() + only.len()) as u64
+        let first = |numbers: &[u64], number| numbers.iter().position(|&other| number != MARK && other == number);
+        let altered = |at: usize| first(correction, master[at]).filter(|_| first(master, master[at]) == Some(at));
+        let only = |&at: &usize| first(correction, correction[at]) == Some(at) && first(master, correction[at]).is_none();
+        let [new, old] = &self.blocks;
+        let standing = (0..old.len()).map(|at| altered(at).map_or(&old[at], |altered| &new[altered]));
+        standing.chain((0..new.len()).filter(only).map(|at| &new[at])).collect()
+    }
+
+    fn entries(&self) -> u64 {
+        self.listing().len() as u64
     }
 
     /// A number on either tape, or on none, or the mark.
@@ -106,7 +128,7 @@ impl Made {
     }
 
     /// Either is asked, whatever it would answer of other tapes.
-    fn either(&self, chance: &mut Chance, pair: Pair, known: Option<(u64, u64)>) -> Posed {
+    fn either(&self, chance: &mut Chance, pair: Pair, known: Known) -> Posed {
         if chance.happens(1, 2) {
             return posed(Corrected::Rows { pair, number: self.some_number(chance) }, known);
         }
@@ -115,18 +137,23 @@ impl Made {
 
     /// The correction is damaged, or the master, or both.
     fn damaged(&self, chance: &mut Chance, lines: &mut Vec<Posed>) {
-        for (first, second) in [(true, false), (false, true), (true, true)] {
-            let mut pair = self.pair.clone();
-            let at_first = first.then(|| self.harm(chance, &mut pair.correction));
-            let at_second = second.then(|| self.harm(chance, &mut pair.master));
-            // the correction's own refusal comes first
-            let known = at_first.or(at_second).flatten();
+        for which in HARMED {
+            let (pair, known) = self.harmed(chance, which);
             lines.push(self.either(chance, pair, known));
         }
     }
 
+    /// The pair with those tapes damaged.
+    pub fn harmed(&self, chance: &mut Chance, [first, second]: [bool; 2]) -> (Pair, Known) {
+        let mut pair = self.pair.clone();
+        let at_first = first.then(|| self.harm(chance, &mut pair.correction));
+        let at_second = second.then(|| self.harm(chance, &mut pair.master));
+        // the correction's own refusal comes first
+        (pair, at_first.or(at_second).flatten())
+    }
+
     /// One row with an odd number of holes, which is known to refuse the tape, or any other damage.
-    fn harm(&self, chance: &mut Chance, tape: &mut Vec<u8>) -> Option<(u64, u64)> {
+    fn harm(&self, chance: &mut Chance, tape: &mut Vec<u8>) -> Known {
         match chance.below(4) {
             0 => {
                 let at = chance.below(tape.len());
@@ -140,11 +167,10 @@ impl Made {
     }
 
     /// An edition, a shorthand or a profile that is refused, most often, before the tapes are.
-    fn other_specification(&self, chance: &mut Chance, lines: &mut Vec<Posed>) {
+    pub fn other_specification(&self, chance: &mut Chance) -> (Pair, Known) {
         let mut pair = self.pair.clone();
         if chance.happens(1, 2) {
-            self.harm(chance, &mut pair.correction);
-            self.harm(chance, &mut pair.master);
+            (pair, _) = self.harmed(chance, [true, true]);
         }
         let specification = &mut pair.specification;
         let mut known = None;
@@ -158,7 +184,7 @@ impl Made {
             }
         }
         make_sayable(specification);
-        lines.push(self.either(chance, pair, known));
+        (pair, known)
     }
 }
 
@@ -177,7 +203,7 @@ fn pool(chance: &mut Chance, plan: &Plan, most: usize) -> Vec<u64> {
 
 /// As an index of the tape has them.
 fn numbers_of(tape: &Tape) -> Vec<u64> {
-    tape.blocks.iter().map(|block| if block.opening.numbered { block.opening.sequence } else { MARK }).collect()
+    tape.blocks.iter().map(|block| block.opening.number().unwrap_or(MARK)).collect()
 }
 
 /// An entry by numbers that need not be any tape's.

@@ -594,7 +594,7 @@ fn room(chance: &mut Chance) -> usize {
     chance.below(most)
 }
 
-/// What the listing program is handed.
+/// What a program that lists is handed.
 pub struct Listed {
     /// its standard input
     pub input: Vec<u8>,
@@ -646,17 +646,17 @@ fn slipped_listing(chance: &mut Chance) -> Listed {
 }
 
 /// A profile as an argument, which can't have a NUL; none is no argument, or an empty one.
-fn argument(chance: &mut Chance, mut profile: Vec<u8>) -> Option<Vec<u8>> {
+pub(super) fn argument(chance: &mut Chance, mut profile: Vec<u8>) -> Option<Vec<u8>> {
     profile.retain(|&byte| byte != 0);
     (!profile.is_empty() || chance.happens(1, 3)).then_some(profile)
 }
 
-fn header(edition: u32, shorthand: &[u8]) -> Vec<u8> {
+pub(super) fn header(edition: u32, shorthand: &[u8]) -> Vec<u8> {
     [edition.to_string().as_bytes(), b" ", shorthand, b"\n"].concat()
 }
 
 /// A header at the edges of its rules.
-fn odd_header(chance: &mut Chance, shorthand: &[u8]) -> Vec<u8> {
+pub(super) fn odd_header(chance: &mut Chance, shorthand: &[u8]) -> Vec<u8> {
     let edition = chance.one_of(&["1057", "2539", "1058", "", "01057", "2539.", "1057\0", "105", "+1057", "1057\r"]);
     let between = chance.one_of(&[" ", " ", "", "  ", "\t", "."]);
     let mut header = [edition.as_bytes(), between.as_bytes(), shorthand].concat();

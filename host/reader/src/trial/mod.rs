@@ -15,4 +15,5 @@ mod preferred;
 mod profiles;
 pub mod programs;
 pub mod records;
+pub mod two_tapes;
 mod unnumbered;

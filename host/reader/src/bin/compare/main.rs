@@ -1,5 +1,6 @@
-//! Compares the proved library with the second reader: through the C host, by the listing program, or line by line.
+//! Compares the proved library with the second reader: through the C host, by the programs that list, or line by line.
 
+mod corrected;
 mod door;
 mod listing;
 mod vectors;
@@ -12,7 +13,7 @@ use std::process::{Command, ExitCode, Output, Stdio};
 use std::sync::atomic::{AtomicUsize, Ordering};
 use std::thread;
 
-const USAGE: &str = "usage: compare door|listing|vectors [--inputs N] [--seed N] [--jobs N] -- COMMAND...";
+const USAGE: &str = "usage: compare door|listing|corrected|vectors [--inputs N] [--seed N] [--jobs N] -- COMMAND...";
 /// How many differences are printed.
 const PRINTED: usize = 5;
 
@@ -45,6 +46,7 @@ struct Way {
 const WAYS: &[Way] = &[
     Way { name: "door", inputs: 100_000, compare: door::compare },
     Way { name: "listing", inputs: 3_000, compare: listing::compare },
+    Way { name: "corrected", inputs: 3_000, compare: corrected::compare },
     Way { name: "vectors", inputs: 100_000, compare: vectors::compare },
 ];
 
