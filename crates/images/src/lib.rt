@@ -126,7 +126,7 @@ pub fn append_block(
 }
 
 // Every row overpunched to DEL.
-fn rub_out(part: &mut [u8])
+pub fn rub_out(part: &mut [u8])
     ensures { λ r. ⌜ now (part .exit) ≡ replicate (length (now (part .entry))) 255 ⌝ }
 {
     let mut at: usize = 0;

@@ -59,13 +59,14 @@ one-more l₀ vs v h =
     ∙ sym (append-assoc vs (v ∷ []) rest)
     ∙ ap (λ k. (vs ++ (v ∷ [])) ++ drop k l₀) (sym (length-append vs (v ∷ []) ∙ add-one (length vs)))
 
-module _ (what : Entry → ℕ) (l₀ : List ℕ) where
-  -- an array, which was l₀, begins with what is held of the blocks done
-  pub record Filled (l : List ℕ) (done : List Entry) : Type 0 where
+module _ {A : Type 0} (what : A → ℕ) (l₀ : List ℕ) where
+  -- an array, which was l₀, begins with what is held of the things done
+  pub record Filled (l : List ℕ) (done : List A) : Type 0 where
     pub holds : l ≡ after l₀ (taken (map what done))
     pub same : length l ≡ length l₀
 
-  filled-more : {l : List ℕ} {done : List Entry} → Filled l done → length done < length l₀ → (n : ℕ) → n ≡ length done → (v : ℕ) (x : Entry) → v ≡ what x
+  -- with one thing more
+  pub filled-more : {l : List ℕ} {done : List A} → Filled l done → length done < length l₀ → (n : ℕ) → n ≡ length done → (v : ℕ) (x : A) → v ≡ what x
       → Filled (set l n v) (done ++ (x ∷ []))
   filled-more {l} {done} g h n e v x q =
       let size = length-map done what in

@@ -25,6 +25,11 @@ pub mod BlockParts
 pub mod EntryRows
 pub mod Ranges
 pub mod BareRows
+-- rows behind others
+pub mod MovedRows
+pub mod MovedParsers
+pub mod MovedBlocks
+pub mod BehindHead
 -- the bridge
 pub mod Programs
 pub mod Accepted

@@ -89,7 +89,8 @@ module _ (len : ℕ) (rs : List KeptRow) where
 
 -- ---- soundness
 
-entries-stand : {f : Format} {from : ℕ} {es : List Entry} {rs : List KeptRow} → Entries f from es rs → Blocks f (map (λ e. e .block) es) (chars rs)
+-- blocks one behind another
+pub entries-stand : {f : Format} {from : ℕ} {es : List Entry} {rs : List KeptRow} → Entries f from es rs → Blocks f (map (λ e. e .block) es) (chars rs)
 entries-stand Entries.none = none
 entries-stand (Entries.more {s = s} {rest = rest} b l m) = rw (chars-append s rest) (more b (entries-stand m))
 

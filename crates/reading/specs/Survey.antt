@@ -1,15 +1,16 @@
--- What a survey of a tape holds, and an entry read from its own first row.
+-- What a survey of a tape holds, an entry read from its own first row, and rows that are read with no head.
 use Prim.Native.Nat.{ℕ, _+_}
 use mathlib.Core.List.{List, [], _∷_}
 use lib.ListN.{length}
 use Rattle.rows.specs.declared.Checked.the-variants.{Clean, Refused}
-use Rattle.rows.specs.Answer.{Answer, taken, refused, valueOr, _>>=_}
-use Rattle.rows.specs.Kept.{keptAt}
+use Rattle.rows.specs.Answer.{Answer, taken, refused, valueOr, _>>=_, _>>_}
+use Rattle.rows.specs.Kept.{keptAt, kept}
+use Rattle.rows.specs.Stages.{judged}
 use Rattle.shorthand.specs.declared.Format.{Format}
 use Rattle.parts.specs.Ends.{entered}
 use Rattle.reading.specs.declared.Part.{Part}
 use Rattle.reading.specs.declared.EntryAnswer.{EntryAnswer}
-use Rattle.reading.specs.Parse.{Entry, entry, blockAt}
+use Rattle.reading.specs.Parse.{Entry, entry, blockAt, blocksAt}
 use Rattle.reading.specs.Answers.{nowhere, read}
 use Rattle.reading.specs.Front.{partOf}
 
@@ -41,6 +42,10 @@ lastIn a = valueOr (noRows 0) (a >>= λ x. taken (x .last))
 -- the block that begins at row i, whatever stands before it, and its rows; 14 where nothing is left
 unfoldable pub entryFrom : Format → List ℕ → ℕ → Answer Entry
 entryFrom f t i = blockAt (length t) f (keptAt t i) >>= λ b. taken (entry i (b .value))
+
+-- rows with no head, from place 0 on: the first three stages, and then blocks to their end
+unfoldable pub alone : Format → List ℕ → Answer (List Entry)
+alone f t = judged t >> blocksAt (length (kept t)) (length t) f 0 (kept t)
 
 -- what is handed back of an entry, or of a refusal
 abbrev pub entryAnswer : Answer Entry → EntryAnswer

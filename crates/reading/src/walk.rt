@@ -30,7 +30,7 @@ fn pick_part(hit: bool, new: Part, old: Part) -> Part
 }
 
 // All blocks from a row on: their number, and where the rows of block n and of the last stand.
-fn survey_blocks(tape: &[u8], format: Format, n: usize, first: usize, front: Next) -> Survey
+pub fn survey_blocks(tape: &[u8], format: Format, n: usize, first: usize, front: Next) -> Survey
     requires { ⌜ Facts format ⌝ }
     requires { ⌜ Rising (length (now tape)) first (rowsAt (now tape) front) ⌝ }
     ensures count { λ r. ⌜ countTold (r .count) ≡ sizeOf (blocksAt (length (rowsAt (now (tape .entry)) front)) (length (now (tape .entry))) format first (rowsAt (now (tape .entry)) front)) ⌝ }
