@@ -36,7 +36,7 @@ module _ (e : ℕ) (s p : List ℕ) where
   pub never-shared : (t : List ℕ) (bs cs : List Block) → TapeOf e s p bs t → TapeOf e s p cs t → bs ≡ cs
   never-shared = one-program e s p
 
-  -- every function that reads a tape refuses u by the number n at the place k, each by the definition that its promise cites: rows::check, parts::enter_tape,
+  -- every function that reads a tape, but for saving, which alone answers for one with odd rows, refuses u by the number n at the place k, each by the definition that its promise cites: rows::check, parts::enter_tape,
   -- reading::count_blocks with crumbtrellis_count_blocks, read_block, block_rows, index::build_index, images::append_block and take_off, corrections::corrected_entry
   -- and corrected_rows, as the correction and, behind one that is accepted, as the master, and lines::count_listed
   -- within its own limit of rows. pages::list_page asks for what is left of an accepted tape, which u is not. Through an index a block's own rows alone are judged:

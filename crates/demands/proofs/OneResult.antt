@@ -22,6 +22,8 @@ use Rattle.corrections.specs.declared.Corrected.{Corrected}
 use Rattle.corrections.specs.Answers.{correctedTold}
 use Rattle.images.specs.declared.Updated.{Updated}
 use Rattle.images.specs.Images.{updatedTold}
+use Rattle.salvage.specs.declared.Salvaged.{Salvaged}
+use Rattle.salvage.specs.Answers.{salvagedTold}
 
 pub one-check : (r q : Checked) → told r ≡ told q → r ≡ q
 one-check r q = one told (λ u. Clean) Refused (case r) (case q)
@@ -85,3 +87,10 @@ one-entry r q = one correctedTold Corrected.Entry Corrected.Refused (case r) (ca
     case : (r : Corrected) → Case correctedTold Corrected.Entry Corrected.Refused r
     case (Corrected.Entry x) = takes x refl
     case (Corrected.Refused r) = refuses r refl
+
+pub one-saving : (r q : Salvaged) → salvagedTold r ≡ salvagedTold q → r ≡ q
+one-saving r q = one salvagedTold Salvaged.Pieces Salvaged.Refused (case r) (case q)
+  where
+    case : (r : Salvaged) → Case salvagedTold Salvaged.Pieces Salvaged.Refused r
+    case (Salvaged.Pieces n) = takes n refl
+    case (Salvaged.Refused r) = refuses r refl

@@ -1,5 +1,5 @@
 -- The table of refusals as relations: each number with its place and what calls for it (documents 01, "Refusal numbers", and 02, 5/12 to
--- 8/12).
+-- 9/12).
 use Prim.Native.Nat.{ℕ, suc, _+_, _^_, _≤_, _<_}
 use mathlib.Core.Path.{_≡_}
 use mathlib.Core.Bool.{true, false}
@@ -18,6 +18,8 @@ use Rattle.punching.specs.Rows.{rowsOf}
 use Rattle.index.specs.Index.{numbersOf}
 use Rattle.index.specs.Finding.{upTo}
 use Rattle.corrections.specs.Listing.{listing}
+use Rattle.salvage.specs.Pieces.{headOf}
+use Rattle.salvage.specs.Saving.{savedOf}
 use Rattle.places.specs.Faults.{RefusalOf}
 
 -- 4 to 14 of a tape under a shorthand and a profile that are in order: 4 to 7 by its rows, 8 to 14 by what its kept rows could still have become
@@ -76,6 +78,14 @@ pub data Appending (e : ℕ) (s p t : List ℕ) (capacity firsts numbers : ℕ) 
 pub data TakingOff (e : ℕ) (s p t : List ℕ) : ℕ → ℕ → Type 0 where
   unread : {n k : ℕ} → Reading e s p t n k → TakingOff e s p t n k
   empty : counted e s p t ≡ taken 0 → TakingOff e s p t 15 0
+
+-- a tape saved: 4 of the whole; what its head is refused by as a tape of its own; 24 at the losses where one of the lists has no room for them
+pub data Salvaging (e : ℕ) (s p t : List ℕ) (firsts sizes numbers : ℕ) : ℕ → ℕ → Type 0 where
+  settling : {n k : ℕ} → Unsettled e s p n k → Salvaging e s p t firsts sizes numbers n k
+  too-long : {f : Format} → Settled e s p f → limit < length t → Salvaging e s p t firsts sizes numbers 4 limit
+  head : {n k : ℕ} → length t ≤ limit → TapeRefusal e s p (headOf t) n k → Salvaging e s p t firsts sizes numbers n k
+  no-room : {f : Format} {c : ℕ} → Settled e s p f → length t ≤ limit → counted e s p (headOf t) ≡ taken c → (length (savedOf f t .lost) ≤ firsts → length (savedOf f t .lost) ≤ sizes → length (savedOf f t .lost) ≤ numbers → ⊥)
+      → Salvaging e s p t firsts sizes numbers 24 (length (savedOf f t .lost))
 
 -- block n through an index, of this tape or not: 4; 15 at the entries; 5 to 7 of its own rows, counted on the tape; and what the fourth stage says of a single block
 pub data LookingUp (e : ℕ) (s p t firsts : List ℕ) (n : ℕ) : ℕ → ℕ → Type 0 where
