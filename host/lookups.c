@@ -1,4 +1,4 @@
-/* Times the index of a tape's blocks: building it against counting, and blocks through it against the plain walk. */
+/* Times the index of a tape's blocks: building it against counting, and blocks through it against the plain walk; and saving a tape against counting. */
 
 #include <stddef.h>
 #include <stdint.h>
@@ -26,6 +26,9 @@ uint64_t lookups_walk(uint32_t edition, const uint8_t *shorthand, size_t shortha
                       size_t profile_length, const uint8_t *tape, size_t rows, size_t n);
 uint64_t lookups_block(uint32_t edition, const uint8_t *shorthand, size_t shorthand_length, const uint8_t *profile,
                        size_t profile_length, const uint8_t *tape, size_t rows, const size_t *firsts, size_t count, size_t n);
+uint64_t lookups_save(uint32_t edition, const uint8_t *shorthand, size_t shorthand_length, const uint8_t *profile,
+                      size_t profile_length, uint8_t *tape, size_t rows, size_t *firsts, size_t firsts_length, size_t *sizes,
+                      size_t sizes_length, uint32_t *refusals, size_t refusals_length);
 uint64_t lookups_number(const uint64_t *numbers, size_t count, uint64_t sequence);
 
 static void say(const char *text) {
@@ -66,6 +69,12 @@ static uint8_t text[MOST];
 static size_t firsts[200000];
 static uint64_t numbers[200000];
 enum { PLACES = sizeof firsts / sizeof firsts[0] };
+
+/* A tape to be saved, laid out anew for each saving, and the lists of its losses. */
+static uint8_t worn[MOST];
+static uint8_t image[MOST];
+static size_t losses[MOST], sizes[MOST];
+static uint32_t refusals[MOST];
 
 struct asked {
     uint32_t edition;
@@ -155,6 +164,26 @@ static uint64_t find_none(const struct asked *asked, size_t n) {
     return lookups_number(numbers, asked->blocks, UINT64_MAX - 1 - n);
 }
 
+static void compare(const struct asked *asked, size_t n, const char *shorter, work *fast, uint64_t fast_calls,
+                    const char *longer, work *slow, uint64_t slow_calls);
+
+/* Saving is timed with a copy of the tape, which it changes. */
+static uint64_t save(const struct asked *asked, size_t n) {
+    (void)n;
+    for (size_t at = 0; at < asked->rows; at += 1) {
+        image[at] = worn[at];
+    }
+    return lookups_save(asked->edition, asked->shorthand, asked->shorthand_length, asked->profile, asked->profile_length, image,
+                        asked->rows, losses, MOST, sizes, MOST, refusals, MOST);
+}
+
+/* How many pieces are lost of the tape that stands to be saved, said before the times. */
+static void save_against_count(const struct asked *asked, const char *what) {
+    say(what);
+    say_number(save(asked, 0));
+    compare(asked, 0, " pieces lost; counting the tape: ", count, 1, "; saving: ", save, 1);
+}
+
 /* The time of one of the calls that a work makes, in thousandths of a nanosecond. */
 static uint64_t timed(work *work, const struct asked *asked, size_t n, uint64_t calls) {
     static volatile uint64_t kept;
@@ -240,5 +269,21 @@ int main(int words, char **word) {
     }
     say_times("a number that no block has: ", none);
     say("\n");
+    for (size_t at = 0; at < asked.rows; at += 1) {
+        worn[at] = asked.tape[at];
+    }
+    save_against_count(&asked, "sound: ");
+    for (size_t at = 100; at < asked.rows; at += 100) {
+        worn[at] ^= 1;
+    }
+    save_against_count(&asked, "an odd row in each hundred: ");
+    size_t head = 0;
+    while (worn[head] != '\n') {
+        head += 1;
+    }
+    for (size_t at = head; at < asked.rows; at += 1) {
+        worn[at] = '\n';
+    }
+    save_against_count(&asked, "LF alone behind the head: ");
     return 0;
 }
