@@ -27,7 +27,7 @@ use index::Located;
 use index::NO_NUMBER;
 
 // How many places of an array are lent.
-fn places_in(text: &[u8]) -> usize
+pub fn places_in(text: &[u8]) -> usize
     ensures { λ r. ⌜ r ≤ 100 ⌝ }
 {
     let places = number(text);
@@ -35,7 +35,7 @@ fn places_in(text: &[u8]) -> usize
 }
 
 // What stands behind the first comma; all of the text where it has none.
-fn behind_comma(text: &[u8]) -> &[u8] {
+pub fn behind_comma(text: &[u8]) -> &[u8] {
     let comma = bytes::scan::find(text, 0, text.len(), b',');
     if comma < text.len() {
         return &text[comma + 1..];
@@ -57,7 +57,7 @@ pub fn marked_of(text: &[u8]) -> u64 {
 }
 
 // The old content of an array of first rows, as of a buffer.
-fn fill_firsts(firsts: &mut [usize], first: u64) {
+pub fn fill_firsts(firsts: &mut [usize], first: u64) {
     let mut b = first % 256;
     let mut i: usize = 0;
     while i < firsts.len() {
@@ -121,7 +121,7 @@ pub fn numbers_of(list: &[u8], numbers: &mut [u64]) -> usize
 }
 
 // What stands before an entry of a list.
-fn put_between(out: &mut [u8], at: usize, i: usize) -> usize {
+pub fn put_between(out: &mut [u8], at: usize, i: usize) -> usize {
     if i == 0 {
         return put(out, at, b' ');
     }
@@ -129,7 +129,7 @@ fn put_between(out: &mut [u8], at: usize, i: usize) -> usize {
 }
 
 // A space and the first rows; a dot for none.
-fn put_firsts(out: &mut [u8], start: usize, firsts: &[usize]) -> usize {
+pub fn put_firsts(out: &mut [u8], start: usize, firsts: &[usize]) -> usize {
     if firsts.len() == 0 {
         return put_all(out, start, b" .");
     }

@@ -11,6 +11,7 @@ mod line_cases;
 mod punch_cases;
 mod records;
 mod row_cases;
+mod salvage_cases;
 mod shorthand_cases;
 mod speed_cases;
 
@@ -123,6 +124,14 @@ fn answer_corrections(
     }
 }
 
+// What is asked of damaged tapes.
+fn answer_salvage(letter: u8, asked: &[u8], tape: &mut [u8], out: &mut [u8], at: usize) -> usize {
+    match letter {
+        b'V' => salvage_cases::save(asked, tape, out, at),
+        _ => at,
+    }
+}
+
 fn is_capital(c: u8) -> bool {
     b'A' <= c && c <= b'Z'
 }
@@ -181,6 +190,7 @@ fn answer_pair(
     match line[0] {
         b'I' => answer_index(letter, asked, tape, buffer, out, at),
         b'C' => answer_corrections(letter, asked, tape, buffer, out, at),
+        b'S' => answer_salvage(letter, asked, tape, out, at),
         _ => at,
     }
 }
