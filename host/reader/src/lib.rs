@@ -14,6 +14,7 @@ pub mod profile;
 pub mod punching;
 pub mod reading;
 pub mod rows;
+pub mod salvage;
 pub mod shorthand;
 pub mod specification;
 pub mod speeds;

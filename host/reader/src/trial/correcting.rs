@@ -11,6 +11,7 @@ use crate::index::MARK;
 use crate::reading::Block;
 use crate::rows::{punched, LF};
 use crate::specification::Specification;
+use crate::Refusal;
 
 /// A tape of more rows is not asked for twice in one line.
 const MOST_TWICE: usize = 2_000;
@@ -172,20 +173,25 @@ impl Made {
         if chance.happens(1, 2) {
             (pair, _) = self.harmed(chance, [true, true]);
         }
-        let specification = &mut pair.specification;
-        let mut known = None;
-        match chance.below(4) {
-            0 => specification.edition = strange_edition(chance),
-            1 => specification.shorthand = bad_text(chance, specification.shorthand.clone()),
-            _ => {
-                let (profile, refusal) = profiles::faulty(chance, &self.plan);
-                specification.profile = profile;
-                known = Some(told(refusal));
-            }
-        }
-        make_sayable(specification);
-        (pair, known)
+        let known = misjudge(chance, &self.plan, &mut pair.specification);
+        (pair, known.map(told))
     }
+}
+
+/// Makes of a sound specification one that is refused, most often; with what, where that is known from the making.
+pub(super) fn misjudge(chance: &mut Chance, plan: &Plan, specification: &mut Specification) -> Option<Refusal> {
+    let mut known = None;
+    match chance.below(4) {
+        0 => specification.edition = strange_edition(chance),
+        1 => specification.shorthand = bad_text(chance, specification.shorthand.clone()),
+        _ => {
+            let (profile, refusal) = profiles::faulty(chance, plan);
+            specification.profile = profile;
+            known = Some(refusal);
+        }
+    }
+    make_sayable(specification);
+    known
 }
 
 /// One to `most` numbers that the digits of the plan can say.

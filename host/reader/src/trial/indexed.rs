@@ -1,7 +1,7 @@
 //! Lines of two letters: the index of a tape's blocks, and the image that it is kept with.
 
 use super::inputs::lent;
-use super::lines::{asked, block_reply, handed_back, judged, record_text, rows_text, spelt, Line, Reply};
+use super::lines::{asked, block_reply, handed_back, judged, parts_text, record_text, rows_text, spelt, Line, Reply};
 use crate::index::{append, build, find_block, find_number, take_off, Arrays, Image, MARK};
 use crate::punching::Record;
 use crate::reading::{Block, Opening};
@@ -145,8 +145,8 @@ pub(super) fn number_text(number: u64) -> String {
     }
 }
 
-/// First rows, of which none is a mark.
-fn firsts_text(firsts: &[u64]) -> String {
+/// First rows, or other numbers of which none is a mark.
+pub(super) fn firsts_text(firsts: &[u64]) -> String {
     if firsts.is_empty() {
         return ".".into();
     }
@@ -185,11 +185,7 @@ pub(super) fn appended(specification: &Specification, places: &Places, room: usi
 
 /// The reply with rows and blocks of an image, and behind them the other parts that are not empty.
 fn image_reply(answer: Result<Image, Refusal>, others: &[String]) -> Reply {
-    handed_back(answer, Image { rows: 0, blocks: 0 }, |Image { rows, blocks }| {
-        let mut text = format!("{rows} {blocks}");
-        others.iter().filter(|part| !part.is_empty()).for_each(|part| text += &format!(" {part}"));
-        text
-    })
+    handed_back(answer, Image { rows: 0, blocks: 0 }, |Image { rows, blocks }| parts_text(format!("{rows} {blocks}"), others))
 }
 
 impl Indexed {

@@ -8,6 +8,7 @@ use super::misplaced::{self, Slipped};
 use super::profiles;
 use super::programs;
 use super::records::{self, Handed};
+use super::saved::{self, Saved};
 use crate::corrections::Tape;
 use crate::punching::{punch_head, Record, Word, CLEARED};
 use crate::reading::{block_rows, read_block, Block, Opening, Value};
@@ -81,6 +82,8 @@ pub enum Line {
     Indexed(Box<Indexed>),
     /// the same: a correction tape beside its master
     Corrected(Box<Corrected>),
+    /// SV: a damaged tape saved
+    Saved(Box<Saved>),
     /// a line that is spelt as it would not be by itself
     Spelt(&'static str, Box<Line>),
     /// a line that asks nothing
@@ -115,19 +118,21 @@ pub struct Reply {
     pub unnumbered: bool,
     /// of two tapes, the one that is refused
     pub refused: Option<Tape>,
+    /// of a tape that was saved, what each overpunched piece is refused with; none of one that was not
+    pub losses: Option<Vec<u64>>,
     /// what is written behind the arrow: number and place, but for X, and what is handed back, on a refusal too
     written: String,
 }
 
 impl Reply {
     pub(super) fn new(number: u64, place: u64, handed: &str) -> Reply {
-        Reply { number, place, unnumbered: false, refused: None, written: format!("{number} {place} {handed}") }
+        Reply { number, place, unnumbered: false, refused: None, losses: None, written: format!("{number} {place} {handed}") }
     }
 
     /// The code where there is one. Where there is none, a record is refused with 18.
     fn exact(code: Option<u64>) -> Reply {
         let number = if code.is_some() { 0 } else { 18 };
-        Reply { number, place: 0, unnumbered: false, refused: None, written: code.map_or(String::new(), |code| code.to_string()) }
+        Reply { written: code.map_or(String::new(), |code| code.to_string()), ..Reply::new(number, 0, "") }
     }
 }
 
@@ -158,6 +163,7 @@ impl Line {
             Line::Write(handed) => handed.text("V"),
             Line::Indexed(indexed) => indexed.text(),
             Line::Corrected(corrected) => corrected.text(),
+            Line::Saved(saved) => saved.text(),
             Line::Spelt(text, _) => text.as_bytes().to_vec(),
             Line::Remark(text) => text.clone(),
         }
@@ -201,6 +207,7 @@ impl Line {
             }
             Line::Indexed(indexed) => indexed.answer(),
             Line::Corrected(corrected) => corrected.answer(),
+            Line::Saved(saved) => saved.answer(),
             Line::Spelt(_, line) => return line.answer(),
             Line::Remark(_) => return None,
         })
@@ -307,6 +314,12 @@ fn character_text(character: u8) -> Option<char> {
         b'!'..=b'~' => Some(character as char),
         _ => None,
     }
+}
+
+/// A text, and behind it the other parts that are not empty.
+pub(super) fn parts_text(mut text: String, others: &[String]) -> String {
+    others.iter().filter(|part| !part.is_empty()).for_each(|part| text += &format!(" {part}"));
+    text
 }
 
 /// The number of rows written, and the whole buffer.
@@ -524,11 +537,11 @@ fn number(Input { ask, known }: Input) -> Vec<Posed> {
     }
 }
 
-/// Lines that ask nothing, bars, speeds, missing numbers, indexes and pairs of tapes at their edges, and tapes whose lines are as long as may be, or one byte longer.
+/// Lines that ask nothing, bars, speeds, missing numbers, indexes, pairs of tapes and tapes to save at their edges, and tapes whose lines are as long as may be, or one byte longer.
 pub fn edges() -> Vec<Posed> {
     let remarks =
         ["", "#", "# a remark", " B 1057 N3* %~", "b 1057 N3* %~", "BBB 1057 N3* %~", "Bb 1057 N3* %~", "bB 1057 N3* %~"];
-    let short = ["B1057 N3* %~", "1 2", "~", "IN", "IN\t1 1", "I", "CI", "CP", "Ce 1"];
+    let short = ["B1057 N3* %~", "1 2", "~", "IN", "IN\t1 1", "I", "CI", "CP", "Ce 1", "SV", "S"];
     let mut lines: Vec<Line> = remarks.iter().chain(&short).map(|text| Line::Remark(text.as_bytes().to_vec())).collect();
     for bytes in [MOST_BYTES - 1, MOST_BYTES, MOST_BYTES + 1, 2 * MOST_BYTES, 5 * MOST_BYTES] {
         let mut tape = vec![punched(b'%'), punched(LF)];
@@ -540,6 +553,7 @@ pub fn edges() -> Vec<Posed> {
     lines.extend(spelt_numbers());
     lines.extend(indexed::edges());
     lines.extend(corrected::edges());
+    lines.extend(saved::edges());
     lines.into_iter().map(Posed::of).collect()
 }
 
@@ -830,7 +844,7 @@ mod tests {
             let text = posed.line.text();
             let reply = posed.reply(&text);
             let one = ["B 1057 ", "B 2539 ", "G 2539 ", "C 2", "X 2 ", "J 2539 "];
-            let two = ["IB ", "IA ", "IO ", "IL ", "IW ", "IP ", "IN ", "CP ", "CE ", "CI "];
+            let two = ["IB ", "IA ", "IO ", "IL ", "IW ", "IP ", "IN ", "CP ", "CE ", "CI ", "SV "];
             let asks = one.iter().chain(&two).any(|start| text.starts_with(start.as_bytes()));
             assert_eq!(reply.is_some(), asks && text.len() <= MOST_BYTES);
         }

@@ -15,5 +15,7 @@ mod preferred;
 mod profiles;
 pub mod programs;
 pub mod records;
+pub mod saved;
+pub mod saving;
 pub mod two_tapes;
 mod unnumbered;

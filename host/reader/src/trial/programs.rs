@@ -10,6 +10,7 @@ use crate::rows::{is_character, punched, BS, CR, DEL, HT, LF, NUL};
 use crate::shorthand::{Dropped, Layout, DIMENSIONS};
 use crate::specification::Specification;
 use crate::speeds::Speed;
+use std::mem;
 
 /// A word item as it was made.
 #[derive(Clone, Copy)]
@@ -216,6 +217,17 @@ pub(super) fn tape_of(chance: &mut Chance, plan: &Plan, most: usize, numbers: &[
     let mut punch = Punch::begun(chance, 0);
     punch.numbers = numbers.to_vec();
     finished(punch, plan, most)
+}
+
+/// The rows of a sound tape's head, and of each of `most` blocks or fewer.
+pub(super) fn parts(chance: &mut Chance, plan: &Plan, most: usize) -> Vec<Vec<u8>> {
+    let mut punch = Punch::begun(chance, 0);
+    let mut parts = vec![mem::take(&mut punch.rows)];
+    for _ in 0..punch.chance.below(most + 1) {
+        block(&mut punch, plan);
+        parts.push(mem::take(&mut punch.rows));
+    }
+    parts
 }
 
 /// Rows that break the rules of words, signs, speeds, tabs and ends here and there.

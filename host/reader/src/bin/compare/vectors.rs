@@ -1,10 +1,12 @@
-//! Line by line: what the program `vectors` answers for records, tapes, shorthands, speeds, heads, indexes, images and corrections.
+//! Line by line: what the program `vectors` answers for records, tapes, shorthands, speeds, heads, indexes, images, corrections and
+//! tapes to save.
 
 use super::{add, seen, seen_often, tell, worker_failed, Batch, Order, Seen, Turns};
 use second_opinion::corrections::Tape;
 use second_opinion::trial::correcting;
 use second_opinion::trial::growing;
 use second_opinion::trial::lines::{self, Posed};
+use second_opinion::trial::saving;
 use std::collections::BTreeMap;
 use std::error::Error;
 use std::io;
@@ -43,6 +45,9 @@ const LEAST: &[Due] = &[
     ("CI", &[0, 15], 100),
     ("CP", &[1, 2, 3, 22, 23], 4),
     ("CE", &[1, 2, 3, 22, 23], 4),
+    ("SV", &[0, 24], 100),
+    ("SV", &[5, 6, 7, 8], 10),
+    ("SV", &[1, 2, 3, 22, 23], 4),
 ];
 /// The same of lines that say or answer stop or rapid.
 const LEAST_NAMED: &[Due] = &[("J", &[0, 18], 100), ("W", &[0], 10)];
@@ -50,6 +55,8 @@ const LEAST_NAMED: &[Due] = &[("J", &[0, 18], 100), ("W", &[0], 10)];
 const LEAST_UNNUMBERED: &[Due] = &[("J", &[0, 16], 200), ("J", &[17, 18, 19], 100), ("U", &[0, 16], 40), ("W", &[0], 20)];
 /// The same of two tapes: what the one must be refused with, and the other.
 const LEAST_REFUSED: &[Due] = &[("CP", &[5, 6, 7, 8, 9, 10, 11, 14], 4), ("CE", &[5, 6, 7, 8, 9, 10, 11, 14], 4)];
+/// The same of tapes that were saved: those that lose nothing, and what pieces must be lost for.
+const LEAST_LOST: &[Due] = &[("SV", &[0, 5, 6, 7, 9, 10, 11, 14], 40), ("SV", &[12, 13], 10)];
 
 pub fn compare(order: &Order) -> Result<bool, Box<dyn Error>> {
     let batches = batches(order.inputs);
@@ -83,6 +90,8 @@ fn batches(records: usize) -> Vec<Batch<'static, Posed>> {
         (growing::refused, records / 20),
         (correcting::corrections, records / 20),
         (correcting::refused, records / 20),
+        (saving::tapes, records / 20),
+        (saving::refused, records / 20),
     ] {
         for first in (0..size).step_by(BATCH) {
             batches.push(Box::new(move |seed| make(seed, BATCH.min(size - first))));
@@ -125,6 +134,8 @@ struct Tally {
     correction: BTreeMap<String, Seen>,
     /// those that are refused for the master
     master: BTreeMap<String, Seen>,
+    /// of saved tapes those that lose nothing, by 0, and the pieces that the others lose, by what these are refused with
+    lost: BTreeMap<String, Seen>,
     unasked: u64,
     differences: u64,
 }
@@ -143,6 +154,11 @@ impl Tally {
                 self.unnumbered.entry(kind()).or_default()[number] += u64::from(unnumbered);
                 self.correction.entry(kind()).or_default()[number] += u64::from(reply.refused == Some(Tape::Correction));
                 self.master.entry(kind()).or_default()[number] += u64::from(reply.refused == Some(Tape::Master));
+                if let Some(losses) = &reply.losses {
+                    let lost = self.lost.entry(kind()).or_default();
+                    lost[0] += u64::from(losses.is_empty());
+                    losses.iter().for_each(|&number| lost[number as usize] += 1);
+                }
             }
             None => self.unasked += 1,
         }
@@ -159,13 +175,14 @@ impl Tally {
     }
 
     fn add(&mut self, other: &Tally) {
-        let Tally { seen, named, unnumbered, correction, master, .. } = self;
+        let Tally { seen, named, unnumbered, correction, master, lost, .. } = self;
         for (own, others) in [
             (seen, &other.seen),
             (named, &other.named),
             (unnumbered, &other.unnumbered),
             (correction, &other.correction),
             (master, &other.master),
+            (lost, &other.lost),
         ] {
             others.iter().for_each(|(kind, seen)| add(own.entry(kind.clone()).or_default(), seen));
         }
@@ -181,12 +198,19 @@ impl Tally {
             println!("{kind}: {asked}, seen {}", seen(counts));
             total += asked;
         }
+        for (kind, lost) in &self.lost {
+            let [unaltered, altered] = [lost[0], self.seen[kind][0] - lost[0]];
+            let mut pieces = *lost;
+            pieces[0] = 0;
+            println!("{kind}: {unaltered} unaltered, {altered} with a loss, pieces lost for {}", seen(&pieces));
+        }
         for (which, all, due) in [
             ("", &self.seen, LEAST),
             (" with stop or rapid", &self.named, LEAST_NAMED),
             (" without number", &self.unnumbered, LEAST_UNNUMBERED),
             (" with a refused correction", &self.correction, LEAST_REFUSED),
             (" with a refused master", &self.master, LEAST_REFUSED),
+            (" by what is lost", &self.lost, LEAST_LOST),
         ] {
             for &(kind, numbers, least) in due {
                 let counts = all.get(kind).copied().unwrap_or_default();
