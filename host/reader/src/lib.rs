@@ -18,6 +18,7 @@ pub mod salvage;
 pub mod shorthand;
 pub mod specification;
 pub mod speeds;
+pub mod splices;
 pub mod trial;
 
 use specification::Specification;

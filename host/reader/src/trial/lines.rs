@@ -9,6 +9,7 @@ use super::profiles;
 use super::programs;
 use super::records::{self, Handed};
 use super::saved::{self, Saved};
+use super::splicing::{Spliced, Verdict};
 use crate::corrections::Tape;
 use crate::punching::{punch_head, Record, Word, CLEARED};
 use crate::reading::{block_rows, read_block, Block, Opening, Value};
@@ -84,6 +85,8 @@ pub enum Line {
     Corrected(Box<Corrected>),
     /// SV: a damaged tape saved
     Saved(Box<Saved>),
+    /// B or W of a glued or dressed tape
+    Spliced(Box<Spliced>),
     /// a line that is spelt as it would not be by itself
     Spelt(&'static str, Box<Line>),
     /// a line that asks nothing
@@ -120,13 +123,16 @@ pub struct Reply {
     pub refused: Option<Tape>,
     /// of a tape that was saved, what each overpunched piece is refused with; none of one that was not
     pub losses: Option<Vec<u64>>,
+    /// of a glued or dressed tape, how it was made and whether the answer is the one known from that
+    pub spliced: Option<Verdict>,
     /// what is written behind the arrow: number and place, but for X, and what is handed back, on a refusal too
     written: String,
 }
 
 impl Reply {
     pub(super) fn new(number: u64, place: u64, handed: &str) -> Reply {
-        Reply { number, place, unnumbered: false, refused: None, losses: None, written: format!("{number} {place} {handed}") }
+        let written = format!("{number} {place} {handed}");
+        Reply { number, place, unnumbered: false, refused: None, losses: None, spliced: None, written }
     }
 
     /// The code where there is one. Where there is none, a record is refused with 18.
@@ -164,13 +170,14 @@ impl Line {
             Line::Indexed(indexed) => indexed.text(),
             Line::Corrected(corrected) => corrected.text(),
             Line::Saved(saved) => saved.text(),
+            Line::Spliced(spliced) => spliced.line.text(),
             Line::Spelt(text, _) => text.as_bytes().to_vec(),
             Line::Remark(text) => text.clone(),
         }
     }
 
     /// The reader's answer.
-    fn answer(&self) -> Option<Reply> {
+    pub(super) fn answer(&self) -> Option<Reply> {
         Some(match self {
             Line::Count { specification, tape } => handed_back(count_blocks(specification, tape), 0, |count| count.to_string()),
             // a refusal hands back a rate of zero
@@ -208,6 +215,7 @@ impl Line {
             Line::Indexed(indexed) => indexed.answer(),
             Line::Corrected(corrected) => corrected.answer(),
             Line::Saved(saved) => saved.answer(),
+            Line::Spliced(spliced) => return spliced.answer(),
             Line::Spelt(_, line) => return line.answer(),
             Line::Remark(_) => return None,
         })

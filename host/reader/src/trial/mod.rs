@@ -17,5 +17,6 @@ pub mod programs;
 pub mod records;
 pub mod saved;
 pub mod saving;
+pub mod splicing;
 pub mod two_tapes;
 mod unnumbered;

@@ -331,6 +331,22 @@ fn word(punch: &mut Punch, made: Made, edition: u32) -> Value {
     }
 }
 
+/// All but ":", "%" and ")" may stand inside, a second "(" and LF too.
+pub(super) fn control_out(chance: &mut Chance) -> Vec<u8> {
+    let mut rows = vec![punched(b'(')];
+    for _ in 0..chance.below(12) {
+        let character = match chance.below(6) {
+            0 => chance.one_of(&[b'(', LF, CR, HT, NUL, DEL, BS, b' ', b'/', b'N']),
+            _ => any_character(chance),
+        };
+        if !matches!(character, b':' | b'%' | b')') {
+            rows.push(punched(character));
+        }
+    }
+    rows.push(punched(b')'));
+    rows
+}
+
 impl<'c> Punch<'c> {
     /// Perhaps a leader, and the head.
     pub fn begun(chance: &'c mut Chance, slips: usize) -> Punch<'c> {
@@ -372,24 +388,12 @@ impl<'c> Punch<'c> {
             match self.chance.below(4) {
                 0 => self.rows.push(punched(NUL)),
                 1 => self.rows.push(punched(DEL)),
-                _ => self.control_out(),
+                _ => {
+                    let rows = control_out(self.chance);
+                    self.rows.extend(rows);
+                }
             }
         }
-    }
-
-    /// All but ":", "%" and ")" may stand inside, a second "(" and LF too.
-    fn control_out(&mut self) {
-        self.rows.push(punched(b'('));
-        for _ in 0..self.chance.below(12) {
-            let character = match self.chance.below(6) {
-                0 => self.chance.one_of(&[b'(', LF, CR, HT, NUL, DEL, BS, b' ', b'/', b'N']),
-                _ => any_character(self.chance),
-            };
-            if !matches!(character, b':' | b'%' | b')') {
-                self.rows.push(punched(character));
-            }
-        }
-        self.rows.push(punched(b')'));
     }
 
     /// LF, or CR directly before LF.

@@ -1,5 +1,5 @@
-//! Line by line: what the program `vectors` answers for records, tapes, shorthands, speeds, heads, indexes, images, corrections and
-//! tapes to save.
+//! Line by line: what the program `vectors` answers for records, tapes, shorthands, speeds, heads, indexes, images, corrections,
+//! tapes to save, and glued and dressed tapes.
 
 use super::{add, seen, seen_often, tell, worker_failed, Batch, Order, Seen, Turns};
 use second_opinion::corrections::Tape;
@@ -7,6 +7,7 @@ use second_opinion::trial::correcting;
 use second_opinion::trial::growing;
 use second_opinion::trial::lines::{self, Posed};
 use second_opinion::trial::saving;
+use second_opinion::trial::splicing::{self, How};
 use std::collections::BTreeMap;
 use std::error::Error;
 use std::io;
@@ -57,6 +58,9 @@ const LEAST_UNNUMBERED: &[Due] = &[("J", &[0, 16], 200), ("J", &[17, 18, 19], 10
 const LEAST_REFUSED: &[Due] = &[("CP", &[5, 6, 7, 8, 9, 10, 11, 14], 4), ("CE", &[5, 6, 7, 8, 9, 10, 11, 14], 4)];
 /// The same of tapes that were saved: those that lose nothing, and what pieces must be lost for.
 const LEAST_LOST: &[Due] = &[("SV", &[0, 5, 6, 7, 9, 10, 11, 14], 40), ("SV", &[12, 13], 10)];
+/// How often each way of making glued and dressed tapes must be seen.
+const LEAST_SPLICED: &[(How, u64)] =
+    &[(How::Glued, 100), (How::Dressed, 100), (How::GluedAndDressed, 100), (How::RefusedAndDressed, 40), (How::RemarkWithin, 40)];
 
 pub fn compare(order: &Order) -> Result<bool, Box<dyn Error>> {
     let batches = batches(order.inputs);
@@ -92,6 +96,7 @@ fn batches(records: usize) -> Vec<Batch<'static, Posed>> {
         (correcting::refused, records / 20),
         (saving::tapes, records / 20),
         (saving::refused, records / 20),
+        (splicing::tapes, records / 40),
     ] {
         for first in (0..size).step_by(BATCH) {
             batches.push(Box::new(move |seed| make(seed, BATCH.min(size - first))));
@@ -136,6 +141,8 @@ struct Tally {
     master: BTreeMap<String, Seen>,
     /// of saved tapes those that lose nothing, by 0, and the pieces that the others lose, by what these are refused with
     lost: BTreeMap<String, Seen>,
+    /// those of glued and dressed tapes
+    spliced: BTreeMap<How, u64>,
     unasked: u64,
     differences: u64,
 }
@@ -159,10 +166,15 @@ impl Tally {
                     lost[0] += u64::from(losses.is_empty());
                     losses.iter().for_each(|&number| lost[number as usize] += 1);
                 }
+                if let Some(verdict) = &reply.spliced {
+                    *self.spliced.entry(verdict.how).or_default() += 1;
+                }
             }
             None => self.unasked += 1,
         }
         let as_made = posed.known.is_none_or(|known| reply.as_ref().is_some_and(|reply| known == (reply.number, reply.place)));
+        let verdict = reply.as_ref().and_then(|reply| reply.spliced.as_ref());
+        let as_made = as_made && verdict.is_none_or(|verdict| verdict.as_made);
         if written == reader && as_made {
             return;
         }
@@ -170,7 +182,7 @@ impl Tally {
         let answer = |line: &[u8]| line.strip_prefix(text).unwrap_or(line).escape_ascii().to_string();
         tell(
             format_args!("{}\nlibrary: {}\nreader:  {}", text.escape_ascii(), answer(written), answer(&reader)),
-            posed.known.map(|(number, place)| format!(" -> {number} {place}")),
+            verdict.map(|verdict| verdict.made.clone()).or(posed.known.map(|(number, place)| format!(" -> {number} {place}"))),
         );
     }
 
@@ -186,6 +198,7 @@ impl Tally {
         ] {
             others.iter().for_each(|(kind, seen)| add(own.entry(kind.clone()).or_default(), seen));
         }
+        other.spliced.iter().for_each(|(how, count)| *self.spliced.entry(*how).or_default() += count);
         self.unasked += other.unasked;
         self.differences += other.differences;
     }
@@ -203,6 +216,14 @@ impl Tally {
             let mut pieces = *lost;
             pieces[0] = 0;
             println!("{kind}: {unaltered} unaltered, {altered} with a loss, pieces lost for {}", seen(&pieces));
+        }
+        let spliced: Vec<String> = self.spliced.iter().map(|(how, count)| format!("{count} {how}")).collect();
+        println!("B and W of tapes {}", spliced.join(", "));
+        for (how, least) in LEAST_SPLICED {
+            if self.spliced.get(how).is_none_or(|count| count < least) {
+                println!("tapes {how}: seen fewer than {least} times");
+                well = false;
+            }
         }
         for (which, all, due) in [
             ("", &self.seen, LEAST),
