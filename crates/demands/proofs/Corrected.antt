@@ -54,14 +54,20 @@ module _ (e : ℕ) (s p c m : List ℕ) where
       both-answered e s p c m (λ cs ms. nthNamed n (listing (numbersOf cs) (numbersOf ms))) (λ i k h. Entering.unread h) (λ cs ms q r.
       holds-cond (ltb n (length (listing (numbersOf cs) (numbersOf ms)))) (λ l. value tt) (λ l. refusal (Entering.past q r (ltb-false n (length (listing (numbersOf cs) (numbersOf ms))) l))))
 
-  pub asked-answered : (q : ℕ) → Answered (Asking e s p c m) (rowsCorrected e s p c m q)
+  pub asked-answered : (q : ℕ) → Answered (Asking e s p c m q) (rowsCorrected e s p c m q)
   unfolding placeCorrected
-  asked-answered q = holds-bind (both-answered e s p c m (placeIn q) (λ i k h. Asking.unread h) (λ cs ms h r. by cs ms (numberFound (numbersOf cs) q) (numberFound (numbersOf ms) q) (number-answered q (numbersOf ms)))) (λ x h. value tt)
+  asked-answered q =
+      holds-bind
+      (both-answered e s p c m (placeIn q) (λ i k h. Asking.unread h) (λ cs ms h r.
+      by cs ms h r (numberFound (numbersOf cs) q) (numberFound (numbersOf ms) q) (number-answered q (numbersOf cs)) (number-answered q (numbersOf ms))))
+      (λ x h. value tt)
     where
-      by : (cs ms : List Entry) (a b : Answer ℕ) → Answered Seeking b → Answered (Asking e s p c m) (held (placeOn Correction cs a) (placeOn Master ms b))
-      by cs ms (taken j) b h = value tt
-      by cs ms (refused n k) (taken i) h = value tt
-      by cs ms (refused n k) (refused i l) (refusal Seeking.nowhere) = refusal Asking.neither
+      by : (cs ms : List Entry) → readUnder e s p c ≡ taken cs → readUnder e s p m ≡ taken ms → (a b : Answer ℕ) → Answered (Seeking (numbersOf cs) q) a → Answered (Seeking (numbersOf ms) q) b
+          → Answered (Asking e s p c m q) (held (placeOn Correction cs a) (placeOn Master ms b))
+      by cs ms x y (taken j) b g h = value tt
+      by cs ms x y (refused n k) (taken i) g h = value tt
+      by cs ms x y (refused n k) (refused i l) (refusal g) (refusal (Seeking.the-mark w)) = refusal (Asking.neither x y g (Seeking.the-mark w))
+      by cs ms x y (refused n k) (refused i l) (refusal g) (refusal (Seeking.nowhere w)) = refusal (Asking.neither x y g (Seeking.nowhere w))
 
   -- through indexes that were made for the two tapes the entry is the same, and a refusal and its place too
   pub made-entry : {cf cn mf mn : List ℕ} {i j : ℕ} → Made e s p c cf cn i → Made e s p m mf mn j → (n : ℕ) → entryIndexed (take i cn) (take j mn) n ≡ entryCorrected e s p c m n

@@ -7,12 +7,12 @@ use mathlib.Core.List.{List, [], _∷_, List·Memᴰ·head, List·Memᴰ·tail}
 use native.Mathlib.Omega.{arith}
 use lib.Dec.{eqb, leb, ltb}
 use lib.ListN.{length, getD, drop}
-use borrow.Author.Tests.{leb-true, leb-false, ltb-true, ltb-false}
+use borrow.Author.Tests.{eqb-true, eqb-false, leb-true, leb-false, ltb-true, ltb-false}
 use Rattle.rows.specs.Answer.{Answer, taken, refused, _>>=_, _>>_}
 use Rattle.rows.specs.Kept.{KeptRow, keptAt}
 use Rattle.rows.specs.Stages.{limit, inLimit, judged}
 use Rattle.rows.specs.Faults.{RowRefusal}
-use Rattle.rows.proofs.Outcomes.{Holds, refusal, value, holds-bind, holds-cond, of-refused}
+use Rattle.rows.proofs.Outcomes.{Holds, refusal, value, holds-bind, holds-cond, of-refused, wider}
 use Rattle.rows.proofs.RowRefusals.{row-refusals}
 use Rattle.shorthand.specs.declared.Format.{Format}
 use Rattle.profile.specs.Answers.{agreed}
@@ -92,13 +92,18 @@ module _ (e : ℕ) (s p t firsts : List ℕ) (n : ℕ) where
   found-rows-answered = holds-bind entry-found-answered (λ x h. value tt)
 
 module _ (q : ℕ) where
-  first-answered : (i : ℕ) (ns : List ℕ) → Answered Seeking (firstAt q i ns)
-  unfolding firstAt
-  first-answered i [] = refusal Seeking.nowhere
-  first-answered i (n ∷ ns) = holds-cond (eqb n q) (λ l. value tt) (λ l. first-answered (suc i) ns)
+  -- one entry more that is another
+  one-more : (n : ℕ) (ns : List ℕ) → (n ≡ q → ⊥) → (m k : ℕ) → Seeking ns q m k → Seeking (n ∷ ns) q m k
+  one-more n ns other m k (Seeking.the-mark e) = Seeking.the-mark e
+  one-more n ns other m k (Seeking.nowhere all) = Seeking.nowhere (other, all)
 
-  pub number-answered : (ns : List ℕ) → Answered Seeking (numberFound ns q)
-  number-answered ns = holds-cond (eqb q mark) (λ l. refusal Seeking.nowhere) (λ l. first-answered 0 ns)
+  first-answered : (i : ℕ) (ns : List ℕ) → Answered (Seeking ns q) (firstAt q i ns)
+  unfolding firstAt
+  first-answered i [] = refusal (Seeking.nowhere tt)
+  first-answered i (n ∷ ns) = holds-cond (eqb n q) (λ l. value tt) (λ l. wider (one-more n ns (eqb-false n q l)) (first-answered (suc i) ns))
+
+  pub number-answered : (ns : List ℕ) → Answered (Seeking ns q) (numberFound ns q)
+  number-answered ns = holds-cond (eqb q mark) (λ l. refusal (Seeking.the-mark (eqb-true q mark l))) (λ l. first-answered 0 ns)
 
 -- ---- built, appended, taken off
 

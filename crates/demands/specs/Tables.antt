@@ -7,6 +7,7 @@ use mathlib.Core.List.{List, []}
 use lib.ListN.{length, getD, drop}
 use Rattle.rows.specs.Answer.{taken}
 use Rattle.rows.specs.Stages.{limit}
+use Rattle.rows.specs.Passes.{Every}
 use Rattle.rows.specs.Faults.{RowRefusal}
 use Rattle.shorthand.specs.declared.Format.{Format}
 use Rattle.profile.specs.Relation.{Settled, Unsettled}
@@ -15,7 +16,7 @@ use Rattle.reading.specs.Record.{wordsOf}
 use Rattle.reading.specs.Parse.{Entry}
 use Rattle.reading.specs.Answers.{readUnder, counted}
 use Rattle.punching.specs.Rows.{rowsOf}
-use Rattle.index.specs.Index.{numbersOf}
+use Rattle.index.specs.Index.{mark, numbersOf}
 use Rattle.index.specs.Finding.{upTo}
 use Rattle.corrections.specs.Listing.{listing}
 use Rattle.salvage.specs.Pieces.{headOf}
@@ -106,14 +107,16 @@ pub data Entering (e : ℕ) (s p c m : List ℕ) (n : ℕ) : ℕ → ℕ → Typ
   past : {cs ms : List Entry} → readUnder e s p c ≡ taken cs → readUnder e s p m ≡ taken ms → length (listing (numbersOf cs) (numbersOf ms)) ≤ n
       → Entering e s p c m n 15 (length (listing (numbersOf cs) (numbersOf ms)))
 
--- the rows of a number on either: the same, and 25 at 0
-pub data Asking (e : ℕ) (s p c m : List ℕ) : ℕ → ℕ → Type 0 where
-  unread : {i k : ℕ} → Correcting e s p c m i k → Asking e s p c m i k
-  neither : Asking e s p c m 25 0
+-- a number among those of an index: 25 at 0 where it is the mark for a missing one, or no entry holds it
+pub data Seeking (ns : List ℕ) (q : ℕ) : ℕ → ℕ → Type 0 where
+  the-mark : q ≡ mark → Seeking ns q 25 0
+  nowhere : Every (λ n. n ≡ q → ⊥) ns → Seeking ns q 25 0
 
--- no block has the number
-pub data Seeking : ℕ → ℕ → Type 0 where
-  nowhere : Seeking 25 0
+-- the rows of a number on either: the same, and 25 at 0 where neither of two accepted tapes has it
+pub data Asking (e : ℕ) (s p c m : List ℕ) (q : ℕ) : ℕ → ℕ → Type 0 where
+  unread : {i k : ℕ} → Correcting e s p c m i k → Asking e s p c m q i k
+  neither : {cs ms : List Entry} {n k : ℕ} → readUnder e s p c ≡ taken cs → readUnder e s p m ≡ taken ms → Seeking (numbersOf cs) q n k → Seeking (numbersOf ms) q 25 0
+      → Asking e s p c m q 25 0
 
 -- a code c of k digits given as a number: 13 in three to five digits alone; 21 for another length, or more digits than that
 pub data Speaking (k c : ℕ) : ℕ → ℕ → Type 0 where
