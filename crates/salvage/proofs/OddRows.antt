@@ -1,7 +1,7 @@
 -- Parity stands before all other reading of the head and of each piece.
 use Prim.Native.Nat.{ℕ, _≤_}
-use mathlib.Core.Path.{_≡_, refl, sym, subst, _∙_}
-use mathlib.Core.List.{List, _++_}
+use mathlib.Core.Path.{_≡_, refl, sym, ap, subst, _∙_}
+use mathlib.Core.List.{List, _++_, flatten}
 use native.Mathlib.Omega.{arith}
 use lib.Dec.{T}
 use lib.ListN.{length, length-append}
@@ -17,15 +17,18 @@ use Rattle.shorthand.specs.declared.Format.{Format}
 use Rattle.reading.specs.Answers.{read}
 use Rattle.reading.specs.Survey.{alone}
 use Rattle.reading.proofs.BehindHead.{OnlyHead}
-use Rattle.salvage.specs.Pieces.{headOf}
+use Rattle.salvage.specs.Pieces.{headOf, piecesOf}
 use Rattle.salvage.specs.Saving.{pieceNumber, salvagedFor}
+use Rattle.salvage.proofs.Dividing.{head-whole}
 use Rattle.salvage.proofs.HeadAlone.{piece-alone}
 use Rattle.salvage.proofs.PieceCounts.{alone-refused}
 
 -- an odd row in the head: 5 at its first
-pub odd-head : (f : Format) (t : List ℕ) (firsts sizes numbers p : ℕ) → length t ≤ limit → length (headOf t) ≤ limit → Lowest (Odd (headOf t)) p → salvagedFor f t firsts sizes numbers ≡ refused 5 p
+pub odd-head : (f : Format) (t : List ℕ) (firsts sizes numbers p : ℕ) → length t ≤ limit → Lowest (Odd (headOf t)) p → salvagedFor f t firsts sizes numbers ≡ refused 5 p
 unfolding salvagedFor read
-odd-head f t firsts sizes numbers p l s k = rw (le-ltb limit (length t) l, refused-exactly (headOf t) 5 p .1 (odd s k))
+odd-head f t firsts sizes numbers p l k =
+    let short : length (headOf t) ≤ limit = omega (arith, l, ap length (head-whole t), length-append (headOf t) (flatten (piecesOf t))) in
+    rw (le-ltb limit (length t) l, refused-exactly (headOf t) 5 p .1 (odd short k))
 
 -- rows with an odd one are refused by 5, whatever else is wrong with them
 odd-judged : (r : List ℕ) (q : ℕ) → length r ≤ limit → Odd r q → (p : ℕ) × (judged r ≡ refused 5 p)
