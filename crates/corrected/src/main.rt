@@ -4,6 +4,8 @@
 // 60,000 rows is refused by 4 at 60,000, in its turn. The first argument, where there is one, is the profile. No more than 120,201 bytes are read: an input that is
 // longer has too many rows, and is refused by 1, its rows being fewer than said, or by 4.
 // The lines are made by `printing`, the entries are found by `corrections`; the proofs of the program's own functions are of safety alone.
+#![tactic(auto)]
+
 ghost use Rattle.std.specs.Prelude.{◌≡◌, ◌≤◌, length};
 ghost use Rattle.shorthand.specs.Facts.{Facts};
 
@@ -19,14 +21,14 @@ use rows::{Checked, Refusal};
 use shorthand::Format;
 
 // A count of rows, read from the header.
-#[derive(Drop)]
+#[derive(Clone, Copy)]
 enum Said {
     Rows(usize),
     Nothing,
 }
 
 // Whether the header's text has a shorthand and the counts of the rows behind it; if so, where the shorthand ends, and how many rows are the correction's.
-#[derive(Drop)]
+#[derive(Clone, Copy)]
 struct Sizes {
     given: bool,
     shorthand: usize,

@@ -1,5 +1,7 @@
 // Correction tapes: a short tape with altered blocks beside a master tape. The rows of a number on whichever tape holds them, and the corrected listing, entry by
 // entry, from the tapes alone or through their indexes.
+#![tactic(auto)]
+
 ghost use Rattle.std.specs.Prelude.{◌≡◌, []};
 ghost use Rattle.rows.specs.Answer.{number_of, place_of, value_or};
 ghost use Rattle.corrections.specs.Answers.{entry_corrected, place_corrected, rows_corrected, corrected_told};
@@ -14,46 +16,46 @@ use rows::{Checked, Refusal};
 use tapes::{entry_under, place_under};
 
 // One of the two tapes.
-#[derive(Drop)]
+#[derive(Clone, Copy)]
 pub enum Tape {
     Master,
     Correction,
 }
 
 // An entry of the corrected listing: a tape, and its block.
-#[derive(Drop)]
+#[derive(Clone, Copy)]
 pub struct Named {
     pub tape: Tape,
     pub block: usize,
 }
 
-#[derive(Drop)]
+#[derive(Clone, Copy)]
 pub enum Corrected {
     Entry(Named),
     Refused(Refusal),
 }
 
 // Where some rows stand: on which tape, and from which row to which.
-#[derive(Drop)]
+#[derive(Clone, Copy)]
 pub struct Place {
     pub tape: Tape,
     pub part: Part,
 }
 
-#[derive(Drop)]
+#[derive(Clone, Copy)]
 pub struct PlaceAnswer {
     pub outcome: Checked,
     pub place: Place,
 }
 
 // A tape that was judged: the first row of its first block, and how many blocks it has.
-#[derive(Drop)]
+#[derive(Clone, Copy)]
 pub struct Roll {
     pub first: usize,
     pub count: usize,
 }
 
-#[derive(Drop)]
+#[derive(Clone, Copy)]
 pub enum Judged {
     Accepted(Roll),
     Refused(Refusal),

@@ -21,7 +21,7 @@ use rows::{Checked, Refusal};
 use shorthand::Format;
 
 // A block by its number: which it is, and where it stands.
-#[derive(Drop)]
+#[derive(Clone, Copy)]
 struct Sought {
     found: Located,
     part: Part,

@@ -1,4 +1,6 @@
 // The C door: block counts, speed coding and the head, on numbers and byte slices. include/crumbtrellis.h tells a C host how to call it.
+#![tactic(auto)]
+
 ghost use Rattle.std.specs.Prelude.{◌≡◌};
 ghost use Rattle.rows.specs.Answer.{taken, refusal, number_of, place_of, value_or};
 ghost use Rattle.speeds.specs.Meaning.{speed_for};
@@ -15,7 +17,7 @@ use rows::Refusal;
 use speeds::{Code, Speed, SpeedRead};
 
 // What a C host is handed for an answer: the number returned, and what is left at `place` and at `value`.
-#[derive(Drop)]
+#[derive(Clone, Copy)]
 struct Reply {
     pub number: u32,
     pub place: u64,
@@ -23,7 +25,7 @@ struct Reply {
 }
 
 // The same for a speed, which crosses as a kind and a number of units.
-#[derive(Drop)]
+#[derive(Clone, Copy)]
 struct SpeedReply {
     pub number: u32,
     pub place: u64,

@@ -3,6 +3,8 @@
 // says that blocks with "/" count; the third is the travel: axes with a comma between them, each a letter, low, ":" and high, as in X-100:100,Y0:5. An axis that it does
 // not name may go one million million million either way. A travel that is not in this form is refused by 1 at 0, before all else.
 // The lines are made by `printing`, the places are found by `slides`, a step for each block; the proofs of the program's own functions are of safety alone.
+#![tactic(auto)]
+
 ghost use Rattle.std.specs.Prelude.{◌≡◌, ◌≤◌, ◌<◌, length};
 ghost use Rattle.shorthand.specs.Facts.{Facts};
 
@@ -27,21 +29,21 @@ const FARTHEST: u64 = 1000000000000000000;
 const BEYOND: i64 = 1000000000000000001;
 
 // A place, read from the travel.
-#[derive(Drop)]
+#[derive(Clone, Copy)]
 enum Said {
     Place(i64),
     Nothing,
 }
 
 // Whether the travel is in form, and what it says.
-#[derive(Drop)]
+#[derive(Clone, Copy)]
 struct Given {
     good: bool,
     travel: Travel,
 }
 
 // How blocks are followed: what the caller gave.
-#[derive(Drop)]
+#[derive(Clone, Copy)]
 struct Asked {
     slashed: bool,
     travel: Travel,

@@ -1,5 +1,7 @@
 // Images that grow and shrink: a block appended to the image of a tape, the last one taken off, and the index of its blocks kept with it. The image is the first
 // rows of a lent buffer; all of it where it has fewer.
+#![tactic(auto)]
+
 ghost use Rattle.std.specs.Prelude.{◌≡◌, ◌≤◌, length, take, replicate};
 ghost use Rattle.shorthand.specs.Facts.{Facts};
 ghost use Rattle.images.specs.Images.{append_for, appended, grown, buffer_grown, firsts_grown, numbers_grown, last_for, last_taken, shrunk, buffer_shrunk, updated_told};
@@ -16,33 +18,33 @@ use shorthand::Format;
 use sites::judge_append;
 
 // How many rows an image has now, and how many blocks.
-#[derive(Drop)]
+#[derive(Clone, Copy)]
 pub struct Image {
     pub rows: usize,
     pub blocks: usize,
 }
 
-#[derive(Drop)]
+#[derive(Clone, Copy)]
 pub enum Updated {
     To(Image),
     Refused(Refusal),
 }
 
 // Where rows go in an image, and how many rows it has then.
-#[derive(Drop)]
+#[derive(Clone, Copy)]
 pub struct Site {
     pub at: usize,
     pub rows: usize,
 }
 
-#[derive(Drop)]
+#[derive(Clone, Copy)]
 pub enum Sited {
     At(Site),
     Refused(Refusal),
 }
 
 // What an append has to do: the blocks so far, the first row of the new one, where its rows go, how many they are, and how many rows the image has then.
-#[derive(Drop)]
+#[derive(Clone, Copy)]
 pub struct Plan {
     pub blocks: usize,
     pub first: usize,
@@ -51,7 +53,7 @@ pub struct Plan {
     pub rows: usize,
 }
 
-#[derive(Drop)]
+#[derive(Clone, Copy)]
 pub enum Planned {
     At(Plan),
     Refused(Refusal),

@@ -1,5 +1,7 @@
 // The index of a tape's blocks, in two lent arrays: the first row and the number of each. It is built for a tape, and what is found through it is found without a
 // walk over what stands before.
+#![tactic(auto)]
+
 ghost use Rattle.std.specs.Prelude.{◌≡◌, [], length};
 ghost use Rattle.rows.specs.Answer.{number_of, place_of, told, void, value_or};
 ghost use Rattle.reading.specs.Record.{empty_block};
@@ -22,7 +24,7 @@ use rows::{Checked, Refusal};
 pub const NO_NUMBER: u64 = 18446744073709551615;
 
 // The first block of a number.
-#[derive(Drop)]
+#[derive(Clone, Copy)]
 pub enum Located {
     Block(usize),
     Refused(Refusal),

@@ -1,4 +1,6 @@
 // Lines: the last line of a listing, made in a lent buffer, and the header of the listing's input.
+#![tactic(auto)]
+
 ghost use Rattle.std.specs.Prelude.{◌≡◌, ◌≤◌, length};
 ghost use Rattle.punching.specs.Answers.{room_for, written, after};
 ghost use Rattle.lines.specs.Answers.{printed_told, bytes_of, closing};
@@ -12,14 +14,14 @@ use rows::Refusal;
 use text::put_all;
 
 // How many bytes were put.
-#[derive(Drop)]
+#[derive(Clone, Copy)]
 pub enum Printed {
     Bytes(usize),
     Refused(Refusal),
 }
 
 // What the header says: the edition, where the shorthand stands (from a byte up to, and without, another), and where the rows begin.
-#[derive(Drop)]
+#[derive(Clone, Copy)]
 pub struct Header {
     pub edition: u32,
     pub from: usize,

@@ -1,6 +1,8 @@
 // Lists a tape: standard input holds the edition, a space, the shorthand, LF and the rows; the output is a line for each block and their count.
 // The first argument, where there is one, is the profile; without one, or with an empty one, the program is document 01's.
 // What it writes is made by `lines`; the proofs of its functions are of safety alone.
+#![tactic(auto)]
+
 ghost use Rattle.std.specs.Prelude.{◌≡◌, length, List};
 ghost use Rattle.shorthand.specs.Facts.{Facts};
 ghost use Rattle.reading.specs.Parse.{Entry};

@@ -1,4 +1,6 @@
 // A page of lines: each step of a walk over the blocks puts what it meets into a line, which is copied to the page where it fits.
+#![tactic(auto)]
+
 ghost use Rattle.std.specs.Prelude.{◌≡◌, List, ◌≤◌, ◌<◌, length};
 ghost use Rattle.shorthand.specs.Facts.{Facts};
 ghost use Rattle.reading.specs.Parse.{Entry};
@@ -15,21 +17,21 @@ use steps::{Cursor, Event, Stage};
 use text::{put, put_all, put_start, put_word};
 
 // How many blocks a page lists, how many bytes their lines are, and the row that the next page begins at.
-#[derive(Drop)]
+#[derive(Clone, Copy)]
 pub struct Sheet {
     pub blocks: usize,
     pub bytes: usize,
     pub next: usize,
 }
 
-#[derive(Drop)]
+#[derive(Clone, Copy)]
 pub enum Page {
     Lines(Sheet),
     Refused(Refusal),
 }
 
 // A page with one line more; or full, where the line is longer than what is left of the buffer.
-#[derive(Drop)]
+#[derive(Clone, Copy)]
 pub enum Added {
     Listed(Sheet),
     Full(usize),

@@ -1,4 +1,6 @@
 // What the programs that list blocks share: their argument, the line of a block, and the last line.
+#![tactic(auto)]
+
 ghost use Rattle.std.specs.Prelude.{◌≡◌, ◌+◌, ◌≤◌, min, length};
 ghost use Rattle.io.specs.Counts.{IsPrefixLen};
 ghost use Rattle.text.specs.Line.{Put};

@@ -1,4 +1,6 @@
 // The profile: the general shorthand, with which the detailed one must agree.
+#![tactic(auto)]
+
 ghost use Rattle.std.specs.Prelude.{◌≡◌};
 ghost use Rattle.rows.specs.Answer.{told, void, value_or};
 ghost use Rattle.shorthand.specs.Facts.{Facts};
@@ -14,7 +16,7 @@ use rows::Checked;
 use shorthand::{Edition, Format, Parsed, refuse};
 
 // What a general shorthand says: A, T or S; R or D, or 0; its three digits; and A, I or B. In 1057 the first and the last are 0.
-#[derive(Drop)]
+#[derive(Clone, Copy)]
 struct General {
     way: u8,
     rotary: u8,
@@ -25,14 +27,14 @@ struct General {
 }
 
 // The byte at each place of the form, 0 where none stands; or the refusal.
-#[derive(Drop)]
+#[derive(Clone, Copy)]
 struct Filled {
     outcome: Checked,
     bytes: [u8; 10],
 }
 
 // What agreement asks of the items: whether an axis turns, whether increments and absolute dimensions stand, and how many dimensions but I, J and K.
-#[derive(Drop)]
+#[derive(Clone, Copy)]
 struct Tally {
     rotary: bool,
     increments: bool,

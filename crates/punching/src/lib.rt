@@ -1,4 +1,6 @@
 // Punching: the tape head, and one block under an edition, a shorthand and a profile: how many rows it needs, and the rows into a lent buffer.
+#![tactic(auto)]
+
 ghost use Rattle.std.specs.Prelude.{◌≡◌};
 ghost use Rattle.shorthand.specs.Facts.{Facts};
 ghost use Rattle.punching.specs.Answers.{head_punched, measured, written_for, block_written, block_for, block_punched, written, after, measured_told, punched_told};
@@ -15,21 +17,21 @@ use rows::{Checked, Refusal};
 use shorthand::Format;
 
 // How many rows were written.
-#[derive(Drop)]
+#[derive(Clone, Copy)]
 pub enum Punched {
     Rows(usize),
     Refused(Refusal),
 }
 
 // How many rows a record needs.
-#[derive(Drop)]
+#[derive(Clone, Copy)]
 pub enum Measured {
     Rows(usize),
     Refused(Refusal),
 }
 
 // An integer's sign and magnitude.
-#[derive(Drop)]
+#[derive(Clone, Copy)]
 pub struct Magnitude {
     pub minus: bool,
     pub size: u64,

@@ -28,6 +28,8 @@ use Rattle.reading.proofs.BlockWalk.{program-blocks}
 -- rows have one last place
 same-last : {p q : ℕ} {s : List KeptRow} → Last p s → Last q s → p ≡ q
 same-last (last e) (last d) = sym e ∙ d
+same-last (last e) (before k) = elim k [ ]
+same-last (before h) (last d) = elim h [ ]
 same-last (before h) (before k) = same-last h k
 
 -- a parser that leaves the characters behind the rows s has taken just s
@@ -102,8 +104,8 @@ pub record Parting (f : Format) (from n : ℕ) (es : List Entry) (rs : List Kept
 pub entries-split : {f : Format} {from : ℕ} {es : List Entry} {rs : List KeptRow} → Entries f from es rs → (n : ℕ) → Parting f from n es rs
 entries-split {rs = rs} m zero = record { front = []; back = rs; rows = refl; before = none; after = m }
 entries-split none (suc n) = record { front = []; back = []; rows = refl; before = none; after = none }
-entries-split (more {s = s} h l m) (suc n) =
-    let k = entries-split m n in
+entries-split {from = from} (more {p = p} {s = s} h l m) (suc n) =
+    let k = entries-split {from = p + 1} m n in
     record { front = s ++ k.front; back = k.back; rows = ap (λ u. s ++ u) k.rows ∙ sym (append_assoc s k.front k.back); before = more h l k.before; after = k.after }
 
 -- block n's first row is the one just after the end before it, the head's or a block's
@@ -119,8 +121,15 @@ entry-to from [] n l d = absurd (not-suc-le-zero l)
 entry-to from (x ∷ es) zero l d = refl
 entry-to from (x ∷ es) (suc n) l d = entry-to x.to es n (le_of_suc-le-suc l) d
 
+-- the same for rows that end just before the place where these blocks start
+behind-from : {f : Format} {from : ℕ} {es : List Entry} {rs : List KeptRow} → Entries f from es rs → (p : ℕ) (s : List KeptRow) → from ≡ p + 1 → Last p s
+    → (q : ℕ) × Last q (s ++ rs) × (q + 1 ≡ behind_of from es)
+behind-from none p s e l = (p, rw append-nil l, sym e)
+behind-from (more {p = o} {s = u} {rest = rest} h a m) p s e l =
+    let k = behind-from m o (s ++ u) refl (last-after s u a) in
+    (k.0, rw (append_assoc s u rest) at k.1, k.2)
+
 -- rows that end at the place p, with those of some blocks behind them, end just before the row after the last of these
 pub last-behind : {f : Format} {p : ℕ} {s : List KeptRow} → Last p s → {es : List Entry} {rs : List KeptRow} → Entries f (p + 1) es rs
     → (q : ℕ) × Last q (s ++ rs) × (q + 1 ≡ behind_of (p + 1) es)
-last-behind {p = p} {s = s} l none = (p, rw append-nil l, refl)
-last-behind {s = s} l (more {s = u} {rest = rest} h a m) = let k = last-behind (last-after s u a) m in (k.0, rw (append_assoc s u rest) at k.1, k.2)
+last-behind {p = p} {s = s} l m = behind-from m p s refl l

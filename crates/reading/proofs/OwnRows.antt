@@ -29,19 +29,19 @@ use Rattle.reading.proofs.Accepted.{read_taken}
 -- ---- the rows behind a block
 
 -- behind the last of some kept rows stand those from the next place on
-rows_behind : (t : List ℕ) (i p : ℕ) {s : List KeptRow} (rest : List KeptRow) → Last p s → kept_at t i ≡ s ++ rest → rest ≡ kept_at t (p + 1)
-rows_behind t i p rest (last {r = r} e) q =
+rows_behind : (t : List ℕ) (p i : ℕ) {s : List KeptRow} (rest : List KeptRow) → Last p s → kept_at t i ≡ s ++ rest → rest ≡ kept_at t (p + 1)
+rows_behind t p i rest (last {r = r} e) q =
     let s = next_row t i r.char r.place (r.place + 1) (ap first_of q) in
     ap behind (sym q ∙ s.rows) ∙ rw e
-rows_behind t i p rest (before {r = r} {rs = s} h) q =
+rows_behind t p i rest (before {r = r} {rs = s} h) q =
     let n = next_row t i r.char r.place (r.place + 1) (ap first_of q) in
-    rows_behind t (r.place + 1) p rest h (sym (ap behind (sym q ∙ n.rows)))
+    rows_behind t p (r.place + 1) rest h (sym (ap behind (sym q ∙ n.rows)))
 
 module _ (f : Format) (t : List ℕ) where
   pub block-behind : (i : ℕ) (b : Behind BlockRead) → block_at (length t) f (kept_at t i) ≡ taken b → b.rest ≡ kept_at t (b.value.lf + 1)
   block-behind i b e =
       let r = block-rows f (length t) (kept_at t i) b e in
-      rows_behind t i b.value.lf b.rest r.stands.1 r.split
+      rows_behind t b.value.lf i b.rest r.stands.1 r.split
 
   -- ---- what is left of the blocks
 
@@ -99,7 +99,7 @@ module _ (f : Format) (t : List ℕ) where
   pub behind-head : (es : List Entry) → read f t ≡ taken es → (lf : ℕ) (rest : List KeptRow) → head_at (length t) (kept t) ≡ taking lf rest → Left (lf + 1) es
   behind-head es e lf rest h =
       let r = head_rows (length t) (kept t) _ h in
-      let same = rows_behind t 0 lf rest r.stands.to r.split in
+      let same = rows_behind t lf 0 rest r.stands.to r.split in
       let blocks = sym (program-blocks (length t) f (kept t) lf rest h) ∙ (read_taken f t e).1 in
       record { fuel = length (kept_at t (lf + 1)); enough = le_refl _; come = rw same at blocks }
 

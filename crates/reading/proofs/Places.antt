@@ -45,7 +45,7 @@ rising-at t i =
     ]
 
 -- rows that end at the place p stand from i on, below n, and those behind them from p on
-pub last-rising : {n i p : ℕ} {s : List KeptRow} (rest : List KeptRow) → Last p s → Rising n i (s ++ rest) → (i ≤ p) × (p < n) × Rising n (suc p) rest
+pub last-rising : {n p i : ℕ} {s : List KeptRow} (rest : List KeptRow) → Last p s → Rising n i (s ++ rest) → (i ≤ p) × (p < n) × Rising n (suc p) rest
 last-rising {n} rest (last e) (rise a b h) = rw (← e) (a, b, h)
 last-rising rest (before l) (rise a b h) = let k = last-rising rest l h in (omega (arith, k.0), k.1, k.2)
 

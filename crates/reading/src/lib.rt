@@ -1,4 +1,6 @@
 // Reading: the blocks of a tape under an edition, a shorthand and a profile: their number, block n, its rows. A profile of no bytes is none.
+#![tactic(auto)]
+
 ghost use Rattle.std.specs.Prelude.{◌≡◌, []};
 ghost use Rattle.rows.specs.Answer.{number_of, place_of, told, void, value_or};
 ghost use Rattle.shorthand.specs.Facts.{Facts};
@@ -16,7 +18,7 @@ use walk::survey_tape;
 use words::Word;
 
 // A block: optional skip, alignment, whether it has a number, its number, 0 where it has none, and its words. Places past the count hold letter 0 and plain number 0.
-#[derive(Drop)]
+#[derive(Clone, Copy)]
 pub struct Block {
     pub skip: bool,
     pub alignment: bool,
@@ -27,21 +29,21 @@ pub struct Block {
 }
 
 // The number of blocks.
-#[derive(Drop)]
+#[derive(Clone, Copy)]
 pub enum Counted {
     Blocks(usize),
     Refused(Refusal),
 }
 
 // Where the rows of a block stand: from a row up to, and without, another.
-#[derive(Drop)]
+#[derive(Clone, Copy)]
 pub struct Part {
     pub from: usize,
     pub to: usize,
 }
 
 // The number of blocks, where the rows of one of them stand, and where those of the last do: where there is none, no rows just after the head.
-#[derive(Drop)]
+#[derive(Clone, Copy)]
 pub struct Survey {
     pub count: Counted,
     pub part: Part,
@@ -49,14 +51,14 @@ pub struct Survey {
 }
 
 // Block n, or why there is none.
-#[derive(Drop)]
+#[derive(Clone, Copy)]
 pub struct BlockAnswer {
     pub outcome: Checked,
     pub block: Block,
 }
 
 // A block and where its rows stand, or why there is none.
-#[derive(Drop)]
+#[derive(Clone, Copy)]
 pub struct EntryAnswer {
     pub outcome: Checked,
     pub block: Block,
@@ -64,7 +66,7 @@ pub struct EntryAnswer {
 }
 
 // Where the rows of block n stand, or why there are none.
-#[derive(Drop)]
+#[derive(Clone, Copy)]
 pub struct PartAnswer {
     pub outcome: Checked,
     pub part: Part,

@@ -1,4 +1,6 @@
 // Rows and characters: the table of all 256 rows, the first three stages of reading, and the rows that are kept.
+#![tactic(auto)]
+
 ghost use Rattle.std.specs.Prelude.{◌≡◌, ◌+◌};
 ghost use Rattle.rows.specs.Answer.{told};
 ghost use Rattle.rows.specs.Row.{entry, Tabulated, even};
@@ -11,35 +13,35 @@ mod table;
 use table::ROWS;
 
 // A refusal: its number in document 01's table, and its place.
-#[derive(Drop)]
+#[derive(Clone, Copy)]
 pub struct Refusal {
     pub number: u32,
     pub place: usize,
 }
 
 // The answer of the first three stages.
-#[derive(Drop)]
+#[derive(Clone, Copy)]
 pub enum Checked {
     Clean,
     Refused(Refusal),
 }
 
 // A row of the tape that was looked for.
-#[derive(Drop)]
+#[derive(Clone, Copy)]
 pub enum Found {
     Nowhere,
     At(usize),
 }
 
 // Where the scan of control-outs stands: outside; inside the one that a row opened; inside one that a second row spoilt.
-#[derive(Drop)]
+#[derive(Clone, Copy)]
 pub enum Side {
     Outside,
     Inside(usize),
     Spoilt(usize, usize),
 }
 
-#[derive(Drop)]
+#[derive(Clone, Copy)]
 pub enum Step {
     On(Side),
     Fault(usize),
@@ -47,7 +49,7 @@ pub enum Step {
 
 // What the walk holds of the rows behind it, none of which is odd: the lowest that is not one of the 50; or else the lowest fault of the control-outs; or else
 // where their scan stands.
-#[derive(Drop)]
+#[derive(Clone, Copy)]
 enum Held {
     Foreign(usize),
     Fault(usize),
@@ -55,21 +57,21 @@ enum Held {
 }
 
 // A row that may change what is held, with its entry.
-#[derive(Drop)]
+#[derive(Clone, Copy)]
 enum Mark {
     End,
     At(usize, u8),
 }
 
 // What the walk over kept rows does at a row: keep it, or pass it by, the next row inside a control-out or not.
-#[derive(Drop)]
+#[derive(Clone, Copy)]
 pub enum Turn {
     Keep,
     Pass(bool),
 }
 
 // The next kept row and the place after it.
-#[derive(Drop)]
+#[derive(Clone, Copy)]
 pub enum Next {
     End,
     Row {

@@ -1,4 +1,6 @@
 // Saves what can be saved of a damaged tape: each piece up to an LF row that head and piece alone would not be accepted with is overpunched, and listed.
+#![tactic(auto)]
+
 ghost use Rattle.std.specs.Prelude.{◌≡◌, length};
 ghost use Rattle.rows.specs.Answer.{told};
 ghost use Rattle.shorthand.specs.Facts.{Facts};
@@ -15,14 +17,14 @@ use saving::save_pieces;
 use shorthand::Format;
 
 // How many pieces were overpunched.
-#[derive(Drop)]
+#[derive(Clone, Copy)]
 pub enum Salvaged {
     Pieces(usize),
     Refused(Refusal),
 }
 
 // Where the next piece begins, and how many are listed.
-#[derive(Drop)]
+#[derive(Clone, Copy)]
 pub struct Passed {
     pub at: usize,
     pub listed: usize,

@@ -101,10 +101,10 @@ record Settled (e : Edition) (its : List Item) (dots : Dots) (x : List ℕ) : Ty
 steps-opened : {e : Edition} {dots : Dots} {o : Order} {its : List Item} {x : List ℕ} → Steps e Open start its dots o x → Settled e its dots x
 unfolding spell_items
 steps-opened stay = record { fits = tt; spells = refl }
-steps-opened (step {it = it} dot f s) =
+steps-opened (step {it = it} {its = its} {x = x} dot f s) =
     let r = steps-settled dot refl s in
     let same = ap is_dotted r.0 ∙ is-dotted dot in
-    record { fits = rw same f.dotted; spells = rw same (ap (λ (l : List ℕ). spell_item dot it ++ l) r.1) }
+    record { fits = rw same f.dotted; spells = subst (λ (b : Bool). spell_item dot it ++ x ≡ spell_items b (it ∷ its)) (sym same) (ap (λ (l : List ℕ). spell_item dot it ++ l) r.1) }
 
 taken-lawful : {e : Edition} {t : List ℕ} {f : Format} → Ground e t (taken f) → (t ≡ spell f) × LawfulIn e f
 unfolding spell

@@ -69,21 +69,21 @@ items-ordered h = row-ordered (closed (items-open h)) (items-distinct h)
 -- the walk passes what fills slots in rising order
 row-items : {e : Edition} {o : Order} {ss : List Slot} {its : List Item} → T (rising o.last ss) → Unused o its → Row e ss its → Items e o its
 row-items r u none = done
-row-items {o = o} r u (left {s = s} {ss = ss} a) = row-items (rising-left o.last s ss r) u a
+row-items {o = o} r u (left {s = s} {ss = ss} a) = row-items {o = o} (rising-left o.last s ss r) u a
 row-items {e} {o} r u (turned {t = t} {ss = ss} {it = it} {its = its} h a) =
     let s = turn-steps e o it ss t h r in
-    next (role-due e o it s.0) (row-items s.1 (unused-next o it its u) a)
+    next (role-due e o it s.0) (row-items {o = after o it} s.1 (unused-next o it its u) a)
 row-items {e} {o} r u (axed {c = c} {ss = ss} {it = it} {its = its} h a) =
     let s = axis-steps e o it ss c h r u.all.0 in
-    next (role-due e o it s.0.0) (row-items s.0.1 (unused-next o it its u) a)
+    next (role-due e o it s.0.0) (row-items {o = after o it} s.0.1 (unused-next o it its u) a)
 row-items {e} {o} r u (fed {c = c} {ss = ss} {it = it} {own = f} {its = its} h w a) =
     let s = axis-steps e o it ss c h r u.all.0 in
     let v = unused-next o it (f ∷ its) u in
     let k = own-steps e (after o it) f ss w (dimension-fresh o it e c h) s.1 s.0.1 v.all.0 in
-    next (role-due e o it s.0.0) (next (role-due e (after o it) f k.0) (row-items k.1 (unused-next (after o it) f its v) a))
+    next (role-due e o it s.0.0) (next (role-due e (after o it) f k.0) (row-items {o = after (after o it) f} k.1 (unused-next (after o it) f its v) a))
 row-items {e} {o} r u (feed {ss = ss} {it = it} {its = its} h a) =
     let s = feed-steps e o it ss h r u.all.0 in
-    next (role-due e o it s.0) (row-items s.1 (unused-next o it its u) a)
+    next (role-due e o it s.0) (row-items {o = after o it} s.1 (unused-next o it its u) a)
 
 pub ordered-items : {e : Edition} {its : List Item} → Ordered e its → Items e start its
 ordered-items {its = its} h = row-items slots-rise (unused-start its h.once) (ordered-row h)

@@ -1,4 +1,6 @@
 // The shorthand: an edition and a detailed shorthand, read once into a Format held by value.
+#![tactic(auto)]
+
 ghost use Rattle.std.specs.Prelude.{◌≡◌};
 ghost use Rattle.rows.specs.Answer.{told, void, value_or};
 ghost use Rattle.shorthand.specs.Layout.{empty_format};
@@ -17,14 +19,14 @@ use items::sequence_at;
 use rows::Checked;
 
 // The editions: ISO 1057, and ISO 2539, which holds whatever is in form at all.
-#[derive(Drop)]
+#[derive(Clone, Copy)]
 pub enum Edition {
     Iso1057,
     Iso2539,
 }
 
 // A dimension's mark: none, "+" or "D".
-#[derive(Drop)]
+#[derive(Clone, Copy)]
 pub enum Mark {
     Unmarked,
     Plus,
@@ -32,7 +34,7 @@ pub enum Mark {
 }
 
 // Which zeros of a dimension may be missing.
-#[derive(Drop)]
+#[derive(Clone, Copy)]
 pub enum Missing {
     Nothing,
     Leading,
@@ -40,7 +42,7 @@ pub enum Missing {
 }
 
 // How a dimension's figures stand: digits before and after the implied point, and whether a missing sign means plus.
-#[derive(Drop)]
+#[derive(Clone, Copy)]
 pub struct Figures {
     pub mark: Mark,
     pub before: u8,
@@ -50,21 +52,21 @@ pub struct Figures {
 }
 
 // What an item's words are, with their number of digits.
-#[derive(Drop)]
+#[derive(Clone, Copy)]
 pub enum Kind {
     Plain(u8),
     Speed(u8),
     Dimension(Figures),
 }
 
-#[derive(Drop)]
+#[derive(Clone, Copy)]
 pub struct Item {
     pub letter: u8,
     pub kind: Kind,
 }
 
 // Whether a block may have no number, N's digits, dots or none, whether words have addresses, and the items.
-#[derive(Drop)]
+#[derive(Clone, Copy)]
 pub struct Format {
     pub unnumbered: bool,
     pub sequence: u8,
@@ -75,21 +77,21 @@ pub struct Format {
 }
 
 // Whether the word items begin with a dot: open until the first settles it.
-#[derive(Drop)]
+#[derive(Clone, Copy)]
 pub enum Dots {
     Open,
     Dotted,
     Plainly,
 }
 
-#[derive(Drop)]
+#[derive(Clone, Copy)]
 pub struct Parsed {
     pub outcome: Checked,
     pub format: Format,
 }
 
 // Where the walk over the items stands: the rank reached, whether the last item is a dimension, and whether F, E and D, the first, second and third feed, have stood.
-#[derive(Drop)]
+#[derive(Clone, Copy)]
 struct Order {
     last: u8,
     fresh: bool,
@@ -99,7 +101,7 @@ struct Order {
 }
 
 // The digits that stand together at a place, as far as they can make an item.
-#[derive(Drop)]
+#[derive(Clone, Copy)]
 enum Digits {
     Empty,
     One(u8),
@@ -109,21 +111,21 @@ enum Digits {
 }
 
 // Digits, and the place after them.
-#[derive(Drop)]
+#[derive(Clone, Copy)]
 struct Run {
     digits: Digits,
     after: usize,
 }
 
 // A mark, and the place after it.
-#[derive(Drop)]
+#[derive(Clone, Copy)]
 struct Marked {
     mark: Mark,
     after: usize,
 }
 
 // What an item's digits make: the numbers of a kind; or nothing, where more digits could make one, or none can.
-#[derive(Drop)]
+#[derive(Clone, Copy)]
 enum Making {
     Plain(u8),
     Speed(u8),
@@ -133,7 +135,7 @@ enum Making {
 }
 
 // What is read of a word item at a place: its dot; its letter, unless the text ends there; its mark and digits; and the place after them.
-#[derive(Drop)]
+#[derive(Clone, Copy)]
 struct Seen {
     dot: bool,
     named: bool,
@@ -144,7 +146,7 @@ struct Seen {
 }
 
 // How a word item stands: whole; short, so that further bytes could mend it; past mending.
-#[derive(Drop)]
+#[derive(Clone, Copy)]
 enum Found {
     Whole(Item),
     Short,
@@ -152,7 +154,7 @@ enum Found {
 }
 
 // The digits of N's numbers, with the place after the N item; or its refusal, by number and place.
-#[derive(Drop)]
+#[derive(Clone, Copy)]
 enum Sequence {
     Whole(u8, usize),
     Refused(u32, usize),

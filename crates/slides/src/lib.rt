@@ -1,4 +1,6 @@
 // Slides: where each axis stands behind block n of a tape, and a warning before one would leave its travel.
+#![tactic(auto)]
+
 ghost use Rattle.std.specs.Prelude.{◌≡◌};
 ghost use Rattle.rows.specs.Answer.{told, void, value_or};
 ghost use Rattle.slides.specs.Moves.{start};
@@ -15,28 +17,28 @@ use rows::Checked;
 use rules::rule_of;
 
 // How far each axis may go, in dimension order: X Y Z U V W P Q R A B C D E.
-#[derive(Drop)]
+#[derive(Clone, Copy)]
 pub struct Travel {
     pub low: [i64; 14],
     pub high: [i64; 14],
 }
 
 // Where each axis stands, in the same order, and whether G91 was chosen last.
-#[derive(Drop)]
+#[derive(Clone, Copy)]
 pub struct Slides {
     pub places: [i64; 14],
     pub increments: bool,
 }
 
 // Where the axes stand, or why that can't be said.
-#[derive(Drop)]
+#[derive(Clone, Copy)]
 pub struct SlideAnswer {
     pub outcome: Checked,
     pub slides: Slides,
 }
 
 // What settles how blocks move the axes: whether G90 and G91 choose, which axes have "D" items, whether blocks with "/" count, and the travel.
-#[derive(Drop)]
+#[derive(Clone, Copy)]
 pub struct Rule {
     pub chooses: bool,
     pub deltas: [bool; 14],
@@ -45,21 +47,21 @@ pub struct Rule {
 }
 
 // What a word does: nothing, or it moves an axis to or by a value.
-#[derive(Drop)]
+#[derive(Clone, Copy)]
 pub enum Motion {
     Still,
     Moves(usize, i64),
 }
 
 // Where a word puts its axis.
-#[derive(Drop)]
+#[derive(Clone, Copy)]
 pub enum Put {
     At(i64),
     Outside,
 }
 
 // The places behind some words, all within their travel; or not.
-#[derive(Drop)]
+#[derive(Clone, Copy)]
 pub struct Moved {
     pub inside: bool,
     pub places: [i64; 14],

@@ -1,4 +1,6 @@
 // Coded speeds, by preferred numbers and by magic three: code to speed, speed to code, and the code that means a speed exactly.
+#![tactic(auto)]
+
 ghost use Rattle.std.specs.Prelude.{◌≡◌};
 ghost use Rattle.speeds.specs.Meaning.{speed_for};
 ghost use Rattle.speeds.specs.Coding.{same_speed, speed_told, code_told, code_for, exact_for};
@@ -9,7 +11,7 @@ mod magic;
 mod preferred;
 
 // A speed: stop, rapid, or a rate in ten-millionths.
-#[derive(Drop)]
+#[derive(Clone, Copy)]
 pub enum Speed {
     Stop,
     Rapid,
@@ -17,21 +19,21 @@ pub enum Speed {
 }
 
 // The speed that a code means.
-#[derive(Drop)]
+#[derive(Clone, Copy)]
 pub enum SpeedRead {
     Is(Speed),
     Refused(Refusal),
 }
 
 // A speed's code, as a number.
-#[derive(Drop)]
+#[derive(Clone, Copy)]
 pub enum Code {
     Number(u64),
     Refused(Refusal),
 }
 
 // The code that means a speed exactly, where there is one.
-#[derive(Drop)]
+#[derive(Clone, Copy)]
 pub enum Exact {
     Inexact,
     Means(u64),

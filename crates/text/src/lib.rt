@@ -1,4 +1,6 @@
 // Text put into a line: numbers, words and a block's start. Each put writes behind what stands, and answers the place behind it.
+#![tactic(auto)]
+
 ghost use Rattle.std.specs.Prelude.{◌≡◌, cond, [], ◌∷◌, ◌+◌, ◌≤◌, ◌<◌, max, length};
 ghost use Rattle.io.specs.Digits.{last_digits, IsDigitCount};
 ghost use Rattle.words.specs.declared.Value.TheVariants.{Dimension};

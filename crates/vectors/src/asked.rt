@@ -2,28 +2,28 @@
 ghost use Rattle.std.specs.Prelude.{◌≤◌, length};
 
 // A number so far, with one digit more or not.
-#[derive(Drop)]
+#[derive(Clone, Copy)]
 enum Grown {
     To(u64),
     Full,
 }
 
 // A row that is spelt by its number, or none.
-#[derive(Drop)]
+#[derive(Clone, Copy)]
 enum Numbered {
     Row(u8),
     Nothing,
 }
 
 // The row that is spelt at a place, and how many more bytes than one that takes.
-#[derive(Drop)]
+#[derive(Clone, Copy)]
 struct Spelt {
     row: u8,
     more: usize,
 }
 
 // Where a shorthand ends, and where the profile behind it begins and ends; all three are one place where it has none.
-#[derive(Drop)]
+#[derive(Clone, Copy)]
 struct Bounds {
     shorthand: usize,
     profile: usize,

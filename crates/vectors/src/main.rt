@@ -1,4 +1,6 @@
 // Answers the lines on standard input, as LINES.md says. The proofs here are of safety alone.
+#![tactic(auto)]
+
 ghost use Rattle.std.specs.Prelude.{◌≤◌, length};
 
 mod answers;
@@ -21,7 +23,7 @@ use libc::STDIN_FILENO;
 const MOST: usize = 60000;
 
 // What is held of the input between two reads: the bytes of a line that has begun, whether that is one too long, and whether more can come.
-#[derive(Drop)]
+#[derive(Clone, Copy)]
 struct Held {
     bytes: usize,
     long: bool,

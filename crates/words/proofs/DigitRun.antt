@@ -51,6 +51,7 @@ pub one-more-fits : (v d k : ℕ) → v < 10 ^ k → d < 10 → k < 18 → v * 1
 one-more-fits v d k h l m = lt_of_lt_of_le (one_more v d k h l) (ten-grows m)
 
 digit-small : (rs : List KeptRow) → T (digit_next rs) → front_digit rs < 10
+digit-small [] h = absurd h
 digit-small (r ∷ rs) h = let le = leb→le r.char 57 (second (leb 48 r.char) (leb r.char 57) h) in omega arith
 
 pub record Bounded (most : ℕ) (q : Run) : Type 0 where
