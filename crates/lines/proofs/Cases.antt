@@ -4,7 +4,6 @@ use Prim.Native.String.{String}
 use mathlib.Core.Path.{◌≡◌, refl}
 use mathlib.Core.List.{List, [], ◌∷◌, ◌++◌, map}
 use lib.Count.{ones}
-use Rattle.bytes.specs.Bytes.{index_of, index_after}
 use Rattle.rows.specs.Row.{entry}
 use Rattle.rows.specs.Stages.{lowest, scan, judged}
 use Rattle.rows.specs.Kept.{kept_from}
@@ -68,5 +67,5 @@ abbrev cases : List Case
 cases = with_none ++ with_one
 
 pub listings : map (λ c. listing (text c.profile) c.input) cases ≡ map (λ c. text c.output) cases
-unfolding listing header_of listed_under decimal_in index_of index_after agreed profiles.profiled filled agrees parsed parsed_in items_from seen stand stand_n digits_of after_digits rank due after read judged lowest scan entry ones kept_from program_at head_at blocks_at block_at start_at words_at data_at figures run speed_for meaning
+unfolding listing header_of listed_under decimal_in agreed profiles.profiled filled agrees parsed parsed_in items_from seen stand stand_n digits_of after_digits rank due after read judged lowest scan entry ones kept_from program_at head_at blocks_at block_at start_at words_at data_at figures run speed_for meaning
 listings = refl

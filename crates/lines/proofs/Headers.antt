@@ -8,12 +8,11 @@ use lib.Dec.{eqb, ltb}
 use lib.ListN.{length, get_or, take, drop, drop_of_length-le, length-take, take-append-drop}
 use lib.Seq.{drop-cons, take-append_seam}
 use borrow.Author.Tests.{eq-eqb, ne_eqb, le-leb, lt-leb, lt-ltb, le-ltb}
-use Rattle.bytes.specs.Bytes.{index_of, slice}
 use Rattle.rows.specs.Answer.{Answer, taken, refused, void, ◌>>=◌, ◌>>◌}
 use Rattle.shorthand.specs.declared.Format.{Format}
 use Rattle.profile.specs.Answers.{agreed}
 use Rattle.reading.specs.Answers.{read_under, size_of}
-use Rattle.lines.specs.Listing.{same, edition_of, header_end, no_header, header_of, most, listed_under}
+use Rattle.lines.specs.Listing.{same, edition_of, index_of, header_end, no_header, header_of, most, listed_under}
 
 -- ---- two texts compared, byte for byte
 
@@ -65,7 +64,7 @@ module _ (e : ℕ) (s p rows : List ℕ) where
 
 -- ---- the header, by what the kit's search found
 
-module _ (input : List ℕ) (most lf : ℕ) (m : most ≡ min 200 (length input)) (h : lf ≡ 0 + index_of 10 (slice 0 most input)) where
+module _ (input : List ℕ) (most lf : ℕ) (m : most ≡ min 200 (length input)) (h : lf ≡ index_of 10 (take most input)) where
   long : most ≡ length (take 200 input)
   long = m ∙ sym (length-take 200 input)
 
@@ -73,16 +72,14 @@ module _ (input : List ℕ) (most lf : ℕ) (m : most ≡ min 200 (length input)
   front = rw long (ap (take (length (take 200 input))) (sym (take-append-drop 200 input)) ∙ take-append_seam (take 200 input) (drop 200 input))
 
   end : header_end input ≡ lf
-  unfolding slice
   end = ap (index_of 10) (sym front) ∙ omega (arith, h)
 
   pub no_lf : most ≤ lf → header_of input ≡ no_header
   unfolding header_of
   no_lf l = rw (end, le-ltb lf (length (take 200 input)) (omega (arith, long, l)))
 
-  module _ (space : ℕ) (b : lf < most) (g : space ≡ 0 + index_of 32 (slice 0 lf input)) where
+  module _ (space : ℕ) (b : lf < most) (g : space ≡ index_of 32 (take lf input)) where
     gap : index_of 32 (take lf input) ≡ space
-    unfolding slice
     gap = omega (arith, g)
 
     here : ltb lf (length (take 200 input)) ≡ true

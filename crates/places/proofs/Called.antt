@@ -27,7 +27,7 @@ use Rattle.places.proofs.Dues.{due-item, item-letter}
 
 -- ---- one item to a letter
 
-pub every-item : (P : Item → Type 0) {its : List Item} {it : Item} → Memᴰ it its → Every P its → P it
+pub every-item : (P : Item → Type 0) {it : Item} {its : List Item} → Memᴰ it its → Every P its → P it
 every-item P (Memᴰ.head e) all = subst P (sym e) all.0
 every-item P (Memᴰ.tail m) all = every-item P m all.1
 
@@ -36,6 +36,7 @@ abbrev Same : Item → Item → Type 0
 Same it i = i.letter ≡ it.letter → i.kind ≡ it.kind
 
 same-letter : {its : List Item} {it : Item} → Fair its → Memᴰ it its → Every (Same it) its
+same-letter Fair.none m = elim m [ ]
 same-letter {it = it} (more {it = a} {its = its} l w d f) (Memᴰ.head e) = ((λ h. ap (λ i. i.kind) (sym e)), others its (none_other a.letter its d))
   where
     others : (is : List Item) → Every (λ i. i.letter ≡ a.letter → ⊥) is → Every (Same it) is

@@ -41,10 +41,12 @@ pub due-item : {f : Format} {it : Item} {x : List ℕ} → Due f it x → Memᴰ
 due-item h = reached-item h.reached
 
 pub item-widths : {its : List Item} {it : Item} → Fair its → Memᴰ it its → Widths it.kind
+item-widths Fair.none m = elim m [ ]
 item-widths (more l w d h) (Memᴰ.head e) = subst (λ i. Widths i.kind) (sym e) w
 item-widths (more l w d h) (Memᴰ.tail m) = item-widths h m
 
 pub item-letter : {its : List Item} {it : Item} → Fair its → Memᴰ it its → T (any_of (λ c. eqb c it.letter) letters)
+item-letter Fair.none m = elim m [ ]
 item-letter (more l w d f) (Memᴰ.head e) = subst (λ i. T (any_of (λ c. eqb c i.letter) letters)) (sym e) l
 item-letter (more l w d f) (Memᴰ.tail m) = item-letter f m
 

@@ -66,6 +66,7 @@ from-refused (refused m q) g n p e = let a : m ≡ n = cc in let b : q ≡ p = c
 module _ (f : Format) (facts : Facts f) (len : ℕ) where
   -- a refused block behind rows like these
   like-unread : {r : KeptRow} {rs : List KeptRow} (l : List KeptRow) → Like (r ∷ rs) l → Refuses (block_at len f l) → Unread f len l
+  like-unread [] a nay = elim a [ ]
   like-unread (s ∷ l) (first_row a) nay = block-unread f len (s ∷ l) (omega arith) nay
 
   blocks-held : (k from : ℕ) (rs : List KeptRow) (n q : ℕ) → length rs ≤ k → blocks_at k len f from rs ≡ refused n q → Held (Unread f len) len (BlocksStop f) rs n q
