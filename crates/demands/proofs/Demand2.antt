@@ -93,7 +93,7 @@ module _ (e : ℕ) (s p : List ℕ) where
   behind {bs} {t} (b ∷ cs) _ h (more {r = r} {u = u} buffer q k) l =
       let within : length ((t ++ r) ++ u) ≤ limit = rw (append_assoc t r u) l in
       let next = one-behind b buffer h q (shorter (t ++ r) u within) in
-      regrouped bs (cleared b) (map cleared cs) t r u (behind cs u next k within)
+      regrouped bs (cleared b) (map cleared cs) t r u (behind {bs = bs ++ (cleared b ∷ [])} {t = t ++ r} cs u next k within)
 
   -- "Blocks punched after the head, within the length limit, read back as the same blocks", unused places cleared.
   pub read_back : (f : Format) → agreed e s p ≡ taken f → (buffer head : List ℕ) → head_punched buffer ≡ taken head → (bs : List Block) (u : List ℕ) → PunchedAs bs u

@@ -23,7 +23,7 @@ use Rattle.words.specs.Figures.{Behind}
 use Rattle.reading.specs.declared.Block.{Block}
 use Rattle.reading.specs.Parse.{BlockRead, Entry, entry, block_at}
 use Rattle.reading.specs.Answers.{read, read_under, counted}
-use Rattle.reading.specs.Front.{Rising, rise}
+use Rattle.reading.specs.Front.{Rising, over, rise}
 use Rattle.reading.specs.Survey.{Surveyed, surveyed, entry_from}
 use Rattle.reading.proofs.Refusals.{AtRow, Listed, listed-number, listed-place, block-refusals}
 use Rattle.reading.proofs.Places.{rising-at}
@@ -43,6 +43,7 @@ use Rattle.demands.proofs.Demand1.{Answered, settled-answered, under-answered, m
 
 -- the place of a kept row lies on the tape, and so does every place of the fourth stage's table, or at its end
 row_within : {n i k : ℕ} {rs : List KeptRow} → Rising n i rs → AtRow rs k → k ≤ n
+row_within over m = elim m [ ]
 row_within (rise a b h) (Memᴰ.head e) = omega (arith, b, e)
 row_within (rise a b h) (Memᴰ.tail m) = row_within h m
 
@@ -67,7 +68,7 @@ module _ (e : ℕ) (s p t firsts : List ℕ) (n : ℕ) where
       by (taken x) h (refused m k) r =
           let w = block-refusals f (settled-facts q) (length (up_to t firsts n)) (kept_at (up_to t firsts n) (get_or firsts n 0)) m k r in
           let b = listed-number w in
-          refusal (LookingUp.own_Block q l b.0 b.1 (listed-within (rising-at (up_to t firsts n) (get_or firsts n 0)) w))
+          refusal (LookingUp.own_block q l b.0 b.1 (listed-within (rising-at (up_to t firsts n) (get_or firsts n 0)) w))
 
   entry-found-answered : Answered (LookingUp e s p t firsts n) (entry_found e s p t firsts n)
   unfolding entry_found entry_by
