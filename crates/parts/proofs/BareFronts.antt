@@ -1,21 +1,20 @@
 -- Where a block without number may begin: what a step knows of it is what the Format says.
-use mathlib.Core.Path.{◌≡◌, refl, sym, ap, ap₂, ◌∙◌}
-use mathlib.Core.Bool.{Bool, true, false, ◌&&◌, ◌||◌, not, cond, false≢true}
+use mathlib.Core.Path.{◌≡◌, refl, sym, ap, ◌∙◌}
+use mathlib.Core.Bool.{Bool, true, false, ◌&&◌, ◌||◌, not}
 use mathlib.Core.List.{List, [], ◌∷◌}
-use mathlib.Core.Logic.{◌⊎◌, inl, inr}
+use mathlib.Core.Logic.{inl, inr}
 use Prim.Native.Nat.{ℕ, zero, suc, ◌<◌}
 use native.Mathlib.Nat.{le_of_suc-le-suc, zero-lt-suc}
 use native.Mathlib.Omega.{arith}
 use lib.Dec.{eqb, ltb}
 use lib.ListN.{length, get_or}
-use borrow.Author.Tests.{eq-eqb, eqb-true, eqb-false, lt-ltb, le-ltb}
+use borrow.Author.Tests.{eq-eqb, eqb-true, lt-ltb, le-ltb}
 use Rattle.rows.specs.Kept.{KeptRow}
 use Rattle.shorthand.specs.declared.Item.{Item}
 use Rattle.shorthand.specs.declared.Format.{Format}
 use Rattle.shorthand.specs.Layout.{blank, items_of, Way, by_letter, by_both, by_tab, way_by, way_of}
 use Rattle.shorthand.specs.Facts.{Facts}
 use Rattle.shorthand.proofs.FormatItems.{counted, item-is}
-use Rattle.words.specs.Figures.{fronts}
 use Rattle.parts.specs.Items.{letter_at, lead_of, Leads, due_at, turn, any_turn, end_next, bare_in, bare_by, rules_of}
 use Rattle.parts.proofs.Leading.{Sought, sought}
 
