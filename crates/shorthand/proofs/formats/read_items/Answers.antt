@@ -1,17 +1,15 @@
 -- `shorthand::formats::read_items` meets its contract: the loop keeps `Walked`, and each way out of it gives the answer of the walk.
-use Prim.Native.Nat.{◌-◌}
 use mathlib.Core.Path.{◌≡◌}
-use mathlib.Core.Logic.{⊎_elim}
 use Rattle.shorthand.specs.Parse.{settle}
 use Rattle.shorthand.proofs.Walk.{walk_ends, walk-runs-out, Met, walk_meets}
 use Rattle.shorthand.proofs.formats.read_items.Goals as goal
-use Rattle.shorthand.proofs.formats.read_items.Goals.{After-judge_item, Joined-seen}
+use Rattle.shorthand.proofs.formats.read_items.Goals.{After-judge_item, Joined-seen, then-seen, else-seen}
 
 met : (c : After-judge_item) → Met c.loop-at.invariant c.loop-at-test.true c.see_item-seen.result c.judge_item.result
 met c = walk_meets c.loop-at.invariant c.loop-at-test.true c.if-text-at-eq42.false c.see_item-seen.result c.see_item-seen.ensures c.judge_item.result c.judge_item.ensures
 
 settled : (c : Joined-seen) → c.if-seen.dots ≡ settle c.see_item-seen.result.dot
-settled c = ⊎_elim (λ w. rw (w.1, w.0.taken)) (λ w. rw (w.1, w.0.left)) c.if-seen.branch
+settled c = elim c.if-seen.branch [ then-seen w ↦ rw (w.dots-is, w.if-seen.true) | else-seen w ↦ rw (w.dots-is, w.if-seen.false) ]
 
 pub returns-then-text-at-eq42 : goal.returns-then-text-at-eq42
 returns-then-text-at-eq42 c = rw (walk_ends c.loop-at.invariant c.loop-at-test.true c.if-text-at-eq42.true) c.after_star.ensures

@@ -11,10 +11,10 @@ use Rattle.shorthand.proofs.items.judge_item.Goals.{Else-not-dot_fits}
 dotted : (c : Else-not-dot_fits)
     → let a = c.args in
     dot_fits a.edition a.dots a.seen.dot ≡ true
-dotted c = sym c.dot_fits.ensures ∙ not-false c.dot_fits.result c.if-not-dot_fits.false
+dotted c = sym c.dot_fits.ensures ∙ c.if-not-dot_fits.false
 
 pub returns-then-not-dot_fits : goal.returns-then-not-dot_fits
-returns-then-not-dot_fits c = rw (stand-undotted _ _ _ _ _ _ (sym c.dot_fits.ensures ∙ not-true c.dot_fits.result c.if-not-dot_fits.true))
+returns-then-not-dot_fits c = rw (stand-undotted _ _ _ _ _ _ (sym c.dot_fits.ensures ∙ c.if-not-dot_fits.true))
 
 pub returns-then-order-lt-LAST : goal.returns-then-order-lt-LAST
 unfolding stand rank
