@@ -6,6 +6,7 @@ ghost use Rattle.lines.specs.Listing.{same, edition_of, no_header, header_of, li
 use crate::Header;
 use reading::Counted;
 use rows::{Checked, Refusal};
+use text::finding::find_byte;
 
 // The most rows that are listed.
 pub const MOST: usize = 60000;
@@ -61,11 +62,11 @@ pub fn read_header(input: &[u8]) -> Header
     ensures within { (result.from ≤ result.to) × (result.to ≤ length input.now) × (result.rows ≤ length input.now) }
 {
     let most = at_most_200(input.len());
-    let lf = bytes::scan::find(input, 0, most, 10);
+    let lf = find_byte(input, 0, most, 10);
     if most <= lf {
         return no_header();
     }
-    let space = bytes::scan::find(input, 0, lf, 32);
+    let space = find_byte(input, 0, lf, 32);
     if lf <= space {
         return no_header();
     }
