@@ -10,15 +10,16 @@ ghost use Rattle.reading.specs.Answers.{count_told, size_of};
 ghost use Rattle.reading.specs.Remains.{Remains};
 ghost use Rattle.lines.specs.Listing.{listed_under};
 
-use libc::{STDIN_FILENO, STDOUT_FILENO};
 use lines::input::{count_listed, read_header};
 use pages::{Page, list_page};
 use parts::EndRead;
 use parts::ends::enter_tape;
-use printing::{argument_space, read_profile, write_last};
+use printing::{argument_space, output_space, read_input, read_profile, write_last};
 use reading::Counted;
 use rows::Checked;
 use shorthand::Format;
+use std::io;
+use std::io::Write;
 
 // The 200 bytes that a header may have, 60,000 rows, and one byte more, by which too many rows are seen.
 fn input_space() -> [u8; 60201]
@@ -28,7 +29,14 @@ fn input_space() -> [u8; 60201]
 }
 
 // The lines of so many blocks of an accepted tape from a row on, page by page.
-fn write_pages(tape: &[u8], format: Format, first: usize, count: usize, out: &mut [u8])
+fn write_pages<W: Write>(
+    writer: &mut W,
+    tape: &[u8],
+    format: Format,
+    first: usize,
+    count: usize,
+    out: &mut [u8],
+) -> io::Result<()>
     requires facts { Facts format }
     requires remains { (es : List Entry) × Remains format tape.now first es }
 {
@@ -36,44 +44,51 @@ fn write_pages(tape: &[u8], format: Format, first: usize, count: usize, out: &mu
     let mut left = count;
     while 0 < left {
         let Page::Lines(sheet) = list_page(tape, format, from, out) else {
-            return;
+            return Ok(());
         };
-        io::write_all(STDOUT_FILENO, &out[..sheet.bytes]);
+        writer.write_all(&out[..sheet.bytes])?;
         if sheet.blocks == 0 || left < sheet.blocks {
-            return;
+            return Ok(());
         }
         from = sheet.next;
         left -= sheet.blocks;
     }
+    Ok(())
 }
 
 // A refused tape has no lines but the last.
-fn write_blocks(
+fn write_blocks<W: Write>(
+    writer: &mut W,
     edition: u32,
     text: &[u8],
     profile: &[u8],
     tape: &[u8],
     count: Counted,
     out: &mut [u8],
-)
+) -> io::Result<()>
     requires { count_told count ≡ size_of (listed_under edition text.now profile.now tape.now) }
 {
     let Counted::Blocks(n) = count else {
-        return;
+        return Ok(());
     };
     let parsed = profile::parse(edition, text, profile);
     let outcome = parsed.outcome;
     let format = parsed.format;
     let Checked::Clean = outcome else {
-        return;
+        return Ok(());
     };
     let EndRead::At(lf, _) = enter_tape(tape) else {
-        return;
+        return Ok(());
     };
-    write_pages(tape, format, lf + 1, n, out);
+    write_pages(writer, tape, format, lf + 1, n, out)
 }
 
-fn list_input(input: &[u8], profile: &[u8], out: &mut [u8]) {
+fn list_input<W: Write>(
+    writer: &mut W,
+    input: &[u8],
+    profile: &[u8],
+    out: &mut [u8],
+) -> io::Result<()> {
     let header = read_header(input);
     let from = header.from;
     let to = header.to;
@@ -82,15 +97,17 @@ fn list_input(input: &[u8], profile: &[u8], out: &mut [u8]) {
     let text = &input[from..to];
     let tape = &input[rows..];
     let count = count_listed(edition, text, profile, tape);
-    write_blocks(edition, text, profile, tape, count, out);
-    write_last(count, out);
+    write_blocks(writer, edition, text, profile, tape, count, out)?;
+    write_last(writer, count, out)
 }
 
-fn main() {
+fn main(rt: HostRuntime) -> io::Result<()> {
     let mut space = input_space();
     let mut argument = argument_space();
-    let mut out = io::large_buffer();
-    let size = read_profile(&mut argument);
-    let n = io::read_full(STDIN_FILENO, &mut space);
-    list_input(&space[..n], &argument[..size], &mut out);
+    let mut out = output_space();
+    let size = read_profile(&rt, &mut argument);
+    let n = read_input(&mut rt.stdin(), &mut space)?;
+    let input = &space[..n];
+    let profile = &argument[..size];
+    list_input(&mut rt.stdout(), input, profile, &mut out)
 }

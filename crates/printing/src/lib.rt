@@ -1,15 +1,18 @@
-// What the programs that list blocks share: their argument, the line of a block, and the last line.
+// What the programs that list blocks share: their argument, their input, the line of a block, and the last line.
 #![tactic(auto)]
 
-ghost use Rattle.std.specs.Prelude.{◌≡◌, ◌+◌, ◌≤◌, min, length};
-ghost use Rattle.io.specs.Counts.{IsPrefixLen};
+ghost use Rattle.std.specs.Prelude.{◌≡◌, ◌+◌, ◌≤◌, min, length, take};
+ghost use Rattle.std.specs.Io.{ReadsAtMost};
 ghost use Rattle.text.specs.Line.{Put};
 ghost use Rattle.lines.specs.Lines.{block_line};
 
-use libc::{ENAMETOOLONG, STDOUT_FILENO};
 use lines::Printed;
 use parts::Begun;
 use reading::{Block, Counted};
+use std::env::FillError;
+use std::io;
+use std::io::{Read, Write};
+use std::rt::Env;
 use text::{put, put_start, put_word};
 
 // The bytes of the argument that are looked at. A profile in form has at most 10 bytes, so a longer text is out of form, and its first wrong byte is
@@ -20,15 +23,37 @@ pub fn argument_space() -> [u8; 32]
     [0; 32]
 }
 
-// How many bytes of the buffer are the profile: none without an argument, and all where the argument is longer, since then its first bytes fill it.
-pub fn read_profile(buffer: &mut [u8]) -> usize
-    ensures { IsPrefixLen result buffer.new }
+// Room for the lines of a page.
+pub fn output_space() -> [u8; 65536]
+    ensures { 65536 ≡ length result }
 {
-    let n = os::arg(1, buffer);
-    if os::errno() == ENAMETOOLONG {
-        return buffer.len();
+    [0; 65536]
+}
+
+// How many bytes of the buffer are the profile: none without an argument, and all where the argument is longer, since then its first bytes fill it.
+pub fn read_profile(rt: &impl Env, buffer: &mut [u8]) -> usize
+    ensures { (result ≤ length buffer.new) × (result ≡ length (take result buffer.new)) }
+{
+    match rt.arg(1, buffer) {
+        Ok(n) => n,
+        Err(FillError::NotPresent) => 0,
+        Err(FillError::TooLong) => buffer.len(),
     }
-    n
+}
+
+// How many bytes at the front of a space were read: it is read until it is full or the input ends.
+pub fn read_input<R: Read>(from: &mut R, space: &mut [u8]) -> io::Result<usize>
+    ensures { ReadsAtMost result space.new }
+{
+    let mut done: usize = 0;
+    while done < space.len() {
+        let n = from.read(&mut space[done..])?;
+        if n == 0 {
+            break;
+        }
+        done += n;
+    }
+    Ok(done)
 }
 
 // How many words a block has, whatever its count says.
@@ -60,11 +85,10 @@ pub fn put_block(line: &mut [u8], digits: u8, block: Block) -> usize
     put(line, at, 10)
 }
 
-pub fn write_last(count: Counted, out: &mut [u8]) {
+// The last line, composed in a buffer and written.
+pub fn write_last<W: Write>(writer: &mut W, count: Counted, out: &mut [u8]) -> io::Result<()> {
     match lines::last_line(count, out) {
-        Printed::Bytes(n) => {
-            io::write_all(STDOUT_FILENO, &out[..n]);
-        }
-        Printed::Refused(_) => {}
+        Printed::Bytes(n) => writer.write_all(&out[..n]),
+        Printed::Refused(_) => Ok(()),
     }
 }
