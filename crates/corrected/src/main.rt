@@ -6,19 +6,21 @@
 // The lines are made by `printing`, the entries are found by `corrections`; the proofs of the program's own functions are of safety alone.
 #![tactic(auto)]
 
-ghost use Rattle.std.specs.Prelude.{◌≡◌, ◌≤◌, length};
+ghost use Rattle.std.specs.Prelude.{◌≡◌, ◌≤◌, length, IfOk};
 ghost use Rattle.shorthand.specs.Facts.{Facts};
 
 use corrections::listed::{indexed_entry, is_new};
 use corrections::{Corrected, Named, Tape};
 use index::building::build_under;
 use index::finding::find_entry;
-use libc::{STDIN_FILENO, STDOUT_FILENO};
 use lines::input::{count_listed, read_header};
-use printing::{argument_space, put_block, read_profile, write_last};
+use printing::{argument_space, output_space, put_block, read_input, read_profile, write_last};
 use reading::Counted;
 use rows::{Checked, Refusal};
 use shorthand::Format;
+use std::io;
+use std::io::Write;
+use text::finding::find_byte;
 
 // A count of rows, read from the header.
 #[derive(Clone, Copy)]
@@ -86,11 +88,11 @@ fn no_sizes() -> Sizes
 fn split_text(text: &[u8], rows: usize) -> Sizes
     ensures { (result.shorthand ≤ length text.now) × (result.correction ≤ rows) }
 {
-    let first = bytes::scan::find(text, 0, text.len(), 32);
+    let first = find_byte(text, 0, text.len(), 32);
     if text.len() <= first {
         return no_sizes();
     }
-    let second = bytes::scan::find(text, first + 1, text.len(), 32);
+    let second = find_byte(text, first + 1, text.len(), 32);
     if text.len() <= second {
         return no_sizes();
     }
@@ -111,7 +113,14 @@ fn split_text(text: &[u8], rows: usize) -> Sizes
 }
 
 // The line of block n of a tape, by its index.
-fn write_block(tape: &[u8], format: Format, firsts: &[usize], n: usize, out: &mut [u8])
+fn write_block<W: Write>(
+    writer: &mut W,
+    tape: &[u8],
+    format: Format,
+    firsts: &[usize],
+    n: usize,
+    out: &mut [u8],
+) -> io::Result<()>
     requires facts { Facts format }
     requires in_bounds { 786 ≤ length out.old }
 {
@@ -119,14 +128,15 @@ fn write_block(tape: &[u8], format: Format, firsts: &[usize], n: usize, out: &mu
     let outcome = entry.outcome;
     let block = entry.block;
     let Checked::Clean = outcome else {
-        return;
+        return Ok(());
     };
     let size = put_block(out, format.sequence, block);
-    io::write_all(STDOUT_FILENO, &out[..size]);
+    writer.write_all(&out[..size])
 }
 
 // The line of an entry, by the indexes of the two tapes.
-fn write_named(
+fn write_named<W: Write>(
+    writer: &mut W,
     correction: &[u8],
     master: &[u8],
     format: Format,
@@ -134,19 +144,20 @@ fn write_named(
     kept: &[usize],
     named: Named,
     out: &mut [u8],
-)
+) -> io::Result<()>
     requires facts { Facts format }
     requires in_bounds { 786 ≤ length out.old }
 {
     let tape = named.tape;
     match tape {
-        Tape::Correction => write_block(correction, format, given, named.block, out),
-        Tape::Master => write_block(master, format, kept, named.block, out),
+        Tape::Correction => write_block(writer, correction, format, given, named.block, out),
+        Tape::Master => write_block(writer, master, format, kept, named.block, out),
     }
 }
 
 // The lines of the entries in the master's order, by the indexes of the two tapes: the first rows of both, and the numbers of both.
-fn write_masters(
+fn write_masters<W: Write>(
+    writer: &mut W,
     correction: &[u8],
     master: &[u8],
     format: Format,
@@ -155,65 +166,69 @@ fn write_masters(
     news: &[u64],
     olds: &[u64],
     out: &mut [u8],
-)
+) -> io::Result<()>
     requires facts { Facts format }
     requires in_bounds { 786 ≤ length out.old }
 {
     let mut n: usize = 0;
     while n < olds.len() {
         let Corrected::Entry(named) = indexed_entry(news, olds, n) else {
-            return;
+            return Ok(());
         };
-        write_named(correction, master, format, given, kept, named, out);
+        write_named(writer, correction, master, format, given, kept, named, out)?;
         n += 1;
     }
+    Ok(())
 }
 
 // The line of a block that has an entry of its own, and how many lines that is.
-fn write_own(
+fn write_own<W: Write>(
+    writer: &mut W,
     correction: &[u8],
     format: Format,
     given: &[usize],
     n: usize,
     new: bool,
     out: &mut [u8],
-) -> usize
+) -> io::Result<usize>
     requires facts { Facts format }
     requires in_bounds { 786 ≤ length out.old }
-    ensures { result ≤ 1 }
+    ensures { IfOk result (λ k. k ≤ 1) }
 {
     if new {
-        write_block(correction, format, given, n, out);
-        return 1;
+        write_block(writer, correction, format, given, n, out)?;
+        return Ok(1);
     }
-    0
+    Ok(0)
 }
 
 // The lines of the entries that only the correction has, and how many they are.
-fn write_new(
+fn write_new<W: Write>(
+    writer: &mut W,
     correction: &[u8],
     format: Format,
     given: &[usize],
     news: &[u64],
     olds: &[u64],
     out: &mut [u8],
-) -> usize
+) -> io::Result<usize>
     requires facts { Facts format }
     requires in_bounds { 786 ≤ length out.old }
-    ensures { result ≤ length news.now }
+    ensures { IfOk result (λ k. k ≤ length news.now) }
 {
     let mut written: usize = 0;
     let mut n: usize = 0;
     while n < news.len() {
         let new = is_new(news, olds, n);
-        written += write_own(correction, format, given, n, new, out);
+        written += write_own(writer, correction, format, given, n, new, out)?;
         n += 1;
     }
-    written
+    Ok(written)
 }
 
 // The lines of all entries and their count, by the indexes of the two tapes.
-fn write_entries(
+fn write_entries<W: Write>(
+    writer: &mut W,
     correction: &[u8],
     master: &[u8],
     format: Format,
@@ -222,17 +237,25 @@ fn write_entries(
     news: &[u64],
     olds: &[u64],
     out: &mut [u8],
-)
+) -> io::Result<()>
     requires facts { Facts format }
     requires in_bounds { 786 ≤ length out.old }
 {
-    write_masters(correction, master, format, given, kept, news, olds, out);
-    let new = write_new(correction, format, given, news, olds, out);
-    write_last(Counted::Blocks(olds.len() + new), out);
+    write_masters(
+        writer, correction, master, format, given, kept, news, olds, out,
+    )?;
+    let new = write_new(writer, correction, format, given, news, olds, out)?;
+    write_last(writer, Counted::Blocks(olds.len() + new), out)
 }
 
 // The entries of two tapes: each is indexed, and its refusal is the answer.
-fn list_under(correction: &[u8], master: &[u8], format: Format, out: &mut [u8])
+fn list_under<W: Write>(
+    writer: &mut W,
+    correction: &[u8],
+    master: &[u8],
+    format: Format,
+    out: &mut [u8],
+) -> io::Result<()>
     requires facts { Facts format }
     requires in_bounds { 786 ≤ length out.old }
 {
@@ -242,15 +265,14 @@ fn list_under(correction: &[u8], master: &[u8], format: Format, out: &mut [u8])
     let mut olds = [0u64; BLOCKS];
     let corrections = build_under(correction, format, &mut given, &mut news);
     let Counted::Blocks(c) = corrections else {
-        write_last(corrections, out);
-        return;
+        return write_last(writer, corrections, out);
     };
     let masters = build_under(master, format, &mut kept, &mut olds);
     let Counted::Blocks(m) = masters else {
-        write_last(masters, out);
-        return;
+        return write_last(writer, masters, out);
     };
     write_entries(
+        writer,
         correction,
         master,
         format,
@@ -259,40 +281,44 @@ fn list_under(correction: &[u8], master: &[u8], format: Format, out: &mut [u8])
         &news[..c],
         &olds[..m],
         out,
-    );
+    )
 }
 
 // The correction's own refusal comes first, then the master's.
-fn list_tapes(
+fn list_tapes<W: Write>(
+    writer: &mut W,
     edition: u32,
     text: &[u8],
     profile: &[u8],
     correction: &[u8],
     master: &[u8],
     out: &mut [u8],
-)
+) -> io::Result<()>
     requires { 786 ≤ length out.old }
 {
     let given = count_listed(edition, text, profile, correction);
     let Counted::Blocks(_) = given else {
-        write_last(given, out);
-        return;
+        return write_last(writer, given, out);
     };
     let kept = count_listed(edition, text, profile, master);
     let Counted::Blocks(_) = kept else {
-        write_last(kept, out);
-        return;
+        return write_last(writer, kept, out);
     };
     let parsed = profile::parse(edition, text, profile);
     let outcome = parsed.outcome;
     let format = parsed.format;
     let Checked::Clean = outcome else {
-        return;
+        return Ok(());
     };
-    list_under(correction, master, format, out);
+    list_under(writer, correction, master, format, out)
 }
 
-fn list_input(input: &[u8], profile: &[u8], out: &mut [u8])
+fn list_input<W: Write>(
+    writer: &mut W,
+    input: &[u8],
+    profile: &[u8],
+    out: &mut [u8],
+) -> io::Result<()>
     requires { 786 ≤ length out.old }
 {
     let header = read_header(input);
@@ -306,29 +332,30 @@ fn list_input(input: &[u8], profile: &[u8], out: &mut [u8])
     let c = sizes.correction;
     if sizes.given {
         list_tapes(
+            writer,
             header.edition,
             &text[..end],
             profile,
             &rows[..c],
             &rows[c..],
             out,
-        );
+        )
     } else {
-        write_last(
-            Counted::Refused(Refusal {
-                number: 1,
-                place: 0,
-            }),
-            out,
-        );
+        let wrong = Refusal {
+            number: 1,
+            place: 0,
+        };
+        write_last(writer, Counted::Refused(wrong), out)
     }
 }
 
-fn main() {
+fn main(rt: HostRuntime) -> io::Result<()> {
     let mut space = input_space();
     let mut argument = argument_space();
-    let mut out = io::large_buffer();
-    let size = read_profile(&mut argument);
-    let n = io::read_full(STDIN_FILENO, &mut space);
-    list_input(&space[..n], &argument[..size], &mut out);
+    let mut out = output_space();
+    let size = read_profile(&rt, &mut argument);
+    let n = read_input(&mut rt.stdin(), &mut space)?;
+    let input = &space[..n];
+    let profile = &argument[..size];
+    list_input(&mut rt.stdout(), input, profile, &mut out)
 }
