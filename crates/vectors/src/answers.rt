@@ -1,22 +1,63 @@
-// Answers, composed in the output buffer: each put answers the place behind what it put. A full buffer is written, and filled anew.
-use libc::STDOUT_FILENO;
+// Answers, composed in the output's buffer: each put answers the place behind what it put. A full buffer is written, and filled anew.
 use reading::Counted;
 use rows::{Checked, Refusal};
+use std::io;
+use std::io::{Stdout, Write};
 
-pub fn put(out: &mut [u8], at: usize, b: u8) -> usize {
-    if at < out.len() {
-        out[at] = b;
+// How many bytes of answers are held before they are written.
+const ROOM: usize = 65536;
+
+// Standard output, the bytes that are held for it, and why a write failed, where one did: then no more is written.
+#[derive(Drop)]
+pub struct Output {
+    to: Stdout,
+    bytes: [u8; ROOM],
+    failed: Option<io::Error>,
+}
+
+impl Output {
+    pub fn new(to: Stdout) -> Output {
+        Output {
+            to,
+            bytes: [0; ROOM],
+            failed: None,
+        }
+    }
+
+    // Why a write failed, where one did.
+    pub fn outcome(&self) -> io::Result<()> {
+        match self.failed {
+            Some(e) => Err(e),
+            None => Ok(()),
+        }
+    }
+}
+
+// Bytes that are written past those held.
+pub fn write_bytes(out: &mut Output, bytes: &[u8]) {
+    out.failed = write_unless(out.failed, out.to, bytes);
+}
+
+// Why a write failed, this one or one before it, behind which nothing is written.
+fn write_unless(failed: Option<io::Error>, to: Stdout, bytes: &[u8]) -> Option<io::Error> {
+    if failed.is_some() {
+        return failed;
+    }
+    let mut writer = to;
+    writer.write_all(bytes).err()
+}
+
+pub fn put(out: &mut Output, at: usize, b: u8) -> usize {
+    if at < ROOM {
+        out.bytes[at] = b;
         return at + 1;
     }
-    io::write_all(STDOUT_FILENO, out);
-    if out.len() == 0 {
-        return 0;
-    }
-    out[0] = b;
+    write_out(out, ROOM);
+    out.bytes[0] = b;
     1
 }
 
-pub fn put_all(out: &mut [u8], start: usize, text: &[u8]) -> usize {
+pub fn put_all(out: &mut Output, start: usize, text: &[u8]) -> usize {
     let mut at = start;
     let mut i = 0;
     while i < text.len() {
@@ -26,30 +67,30 @@ pub fn put_all(out: &mut [u8], start: usize, text: &[u8]) -> usize {
     at
 }
 
-pub fn write_out(out: &[u8], at: usize) {
-    if at <= out.len() {
-        io::write_all(STDOUT_FILENO, &out[0..at]);
+pub fn write_out(out: &mut Output, at: usize) {
+    if at <= ROOM {
+        out.failed = write_unless(out.failed, out.to, &out.bytes[0..at]);
     }
 }
 
-pub fn put_decimal(out: &mut [u8], at: usize, n: u64) -> usize {
+pub fn put_decimal(out: &mut Output, at: usize, n: u64) -> usize {
     let mut digits = [0u8; 20];
-    let k = io::decimal(n, &mut digits);
+    let k = text::put_decimal(&mut digits, 0, n);
     put_all(out, at, &digits[..k])
 }
 
 // A space and the number.
-pub fn put_number(out: &mut [u8], start: usize, n: u64) -> usize {
+pub fn put_number(out: &mut Output, start: usize, n: u64) -> usize {
     let at = put(out, start, b' ');
     put_decimal(out, at, n)
 }
 
-pub fn put_refusal(out: &mut [u8], at: usize, r: Refusal) -> usize {
+pub fn put_refusal(out: &mut Output, at: usize, r: Refusal) -> usize {
     let place = put_number(out, at, r.number as u64);
     put_number(out, place, r.place as u64)
 }
 
-pub fn put_checked(out: &mut [u8], at: usize, answer: Checked) -> usize {
+pub fn put_checked(out: &mut Output, at: usize, answer: Checked) -> usize {
     match answer {
         Checked::Clean => put_all(out, at, b" 0 0"),
         Checked::Refused(r) => put_refusal(out, at, r),
@@ -57,18 +98,18 @@ pub fn put_checked(out: &mut [u8], at: usize, answer: Checked) -> usize {
 }
 
 // Number, place and value of an answer that was given.
-pub fn put_value(out: &mut [u8], at: usize, value: u64) -> usize {
+pub fn put_value(out: &mut Output, at: usize, value: u64) -> usize {
     let next = put_all(out, at, b" 0 0");
     put_number(out, next, value)
 }
 
 // The same of one that was refused.
-pub fn put_refused(out: &mut [u8], at: usize, r: Refusal) -> usize {
+pub fn put_refused(out: &mut Output, at: usize, r: Refusal) -> usize {
     let next = put_refusal(out, at, r);
     put_number(out, next, 0)
 }
 
-pub fn put_counted(out: &mut [u8], at: usize, count: Counted) -> usize {
+pub fn put_counted(out: &mut Output, at: usize, count: Counted) -> usize {
     match count {
         Counted::Blocks(n) => put_value(out, at, n as u64),
         Counted::Refused(r) => put_refused(out, at, r),
@@ -88,12 +129,12 @@ fn letter_of(c: u8) -> u8 {
     }
 }
 
-fn put_digit(out: &mut [u8], at: usize, n: u8) -> usize {
+fn put_digit(out: &mut Output, at: usize, n: u8) -> usize {
     put(out, at, 48 + n % 10)
 }
 
 // A row as a tape spells it: by its letter, with "?" where its holes are odd, or by its number.
-fn put_row(out: &mut [u8], at: usize, row: u8) -> usize {
+fn put_row(out: &mut Output, at: usize, row: u8) -> usize {
     let letter = letter_of(row % 128);
     if letter == 0 {
         let number = put(out, at, b'\\');
@@ -109,7 +150,7 @@ fn put_row(out: &mut [u8], at: usize, row: u8) -> usize {
 }
 
 // A space and the rows, where there are any.
-pub fn put_rows(out: &mut [u8], start: usize, rows: &[u8]) -> usize {
+pub fn put_rows(out: &mut Output, start: usize, rows: &[u8]) -> usize {
     if rows.len() == 0 {
         return start;
     }

@@ -1,6 +1,8 @@
 // What a line asks: its parts, its numbers and its rows, as LINES.md spells them.
 ghost use Rattle.std.specs.Prelude.{◌≤◌, length};
 
+use text::finding::find_byte;
+
 // A number so far, with one digit more or not.
 #[derive(Clone, Copy)]
 enum Grown {
@@ -32,13 +34,13 @@ struct Bounds {
 
 // What stands before the first space.
 pub fn part(text: &[u8]) -> &[u8] {
-    let space = bytes::scan::find(text, 0, text.len(), b' ');
+    let space = find_byte(text, 0, text.len(), b' ');
     &text[0..space]
 }
 
 // What stands behind it.
 pub fn rest(text: &[u8]) -> &[u8] {
-    let space = bytes::scan::find(text, 0, text.len(), b' ');
+    let space = find_byte(text, 0, text.len(), b' ');
     if space < text.len() {
         return &text[space + 1..];
     }
@@ -49,8 +51,8 @@ pub fn rest(text: &[u8]) -> &[u8] {
 fn split(text: &[u8]) -> Bounds
     ensures { (result.shorthand ≤ length text.now) × (result.profile ≤ result.end) × (result.end ≤ length text.now) }
 {
-    let space = bytes::scan::find(text, 0, text.len(), b' ');
-    let shorthand = bytes::scan::find(text, 0, space, b'|');
+    let space = find_byte(text, 0, text.len(), b' ');
+    let shorthand = find_byte(text, 0, space, b'|');
     if space <= shorthand {
         return Bounds {
             shorthand,
@@ -59,7 +61,7 @@ fn split(text: &[u8]) -> Bounds
         };
     }
     let profile = shorthand + 1;
-    let end = bytes::scan::find(text, profile, text.len(), b'|');
+    let end = find_byte(text, profile, text.len(), b'|');
     Bounds {
         shorthand,
         profile,
@@ -97,7 +99,7 @@ pub fn next_part(text: &[u8], at: usize) -> usize
     requires { at ≤ length text.now }
     ensures { result ≤ length text.now }
 {
-    let space = bytes::scan::find(text, at, text.len(), b' ');
+    let space = find_byte(text, at, text.len(), b' ');
     if space < text.len() {
         return space + 1;
     }

@@ -1,5 +1,5 @@
 // Cases of the crate reading.
-use crate::answers::{put_checked, put_counted, put_number, put_rows};
+use crate::answers::{Output, put_checked, put_counted, put_number, put_rows};
 use crate::asked::{behind_profile, narrow, number, profile_of, rest, rows_of, shorthand_of};
 use crate::records::put_record;
 use reading::{BlockAnswer, Counted};
@@ -21,13 +21,13 @@ pub fn read_under(asked: &[u8], tape: &[u8], n: usize) -> BlockAnswer {
 }
 
 // B: the number of blocks.
-pub fn count(asked: &[u8], tape: &mut [u8], out: &mut [u8], at: usize) -> usize {
+pub fn count(asked: &[u8], tape: &mut [u8], out: &mut Output, at: usize) -> usize {
     let n = rows_of(behind_profile(asked), tape);
     put_counted(out, at, count_under(asked, &tape[0..n]))
 }
 
 // W: block n as a record.
-pub fn block(asked: &[u8], tape: &mut [u8], out: &mut [u8], at: usize) -> usize {
+pub fn block(asked: &[u8], tape: &mut [u8], out: &mut Output, at: usize) -> usize {
     let wanted = behind_profile(asked);
     let n = rows_of(rest(wanted), tape);
     let answer = read_under(asked, &tape[0..n], number(wanted) as usize);
@@ -38,7 +38,7 @@ pub fn block(asked: &[u8], tape: &mut [u8], out: &mut [u8], at: usize) -> usize 
 }
 
 // P: the rows of block n.
-pub fn part_of(asked: &[u8], tape: &mut [u8], out: &mut [u8], at: usize) -> usize {
+pub fn part_of(asked: &[u8], tape: &mut [u8], out: &mut Output, at: usize) -> usize {
     let wanted = behind_profile(asked);
     let n = rows_of(rest(wanted), tape);
     let mut refusal: u32 = 0;

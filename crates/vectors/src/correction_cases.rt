@@ -1,7 +1,7 @@
 // Cases of the crate corrections.
 ghost use Rattle.std.specs.Prelude.{◌≤◌, length};
 
-use crate::answers::{put, put_all, put_decimal, put_number, put_refusal, put_rows};
+use crate::answers::{Output, put, put_all, put_decimal, put_number, put_refusal, put_rows};
 use crate::asked::{behind_profile, narrow, number, part, profile_of, rest, rows_of, shorthand_of};
 use crate::index_cases::{marked_of, numbers_of};
 use corrections::{Corrected, Tape};
@@ -52,7 +52,7 @@ fn letter_of(tape: Tape) -> u8 {
 }
 
 // Number, place and, where there is one, the entry: its tape's letter and its block.
-fn put_corrected(out: &mut [u8], at: usize, answer: Corrected) -> usize {
+fn put_corrected(out: &mut Output, at: usize, answer: Corrected) -> usize {
     match answer {
         Corrected::Entry(named) => {
             let tape = named.tape;
@@ -70,7 +70,7 @@ fn rows_held<'a>(
     asked: &[u8],
     correction: &'a [u8],
     master: &'a [u8],
-    out: &mut [u8],
+    out: &mut Output,
     at: usize,
 ) -> usize {
     let mut refusal: u32 = 0;
@@ -95,7 +95,7 @@ pub fn part_of(
     asked: &[u8],
     tape: &mut [u8],
     buffer: &mut [u8],
-    out: &mut [u8],
+    out: &mut Output,
     at: usize,
 ) -> usize {
     let tapes = rest(behind_profile(asked));
@@ -117,7 +117,13 @@ fn entry_under(asked: &[u8], correction: &[u8], master: &[u8]) -> Corrected {
 }
 
 // CE: entry n of the corrected listing.
-pub fn entry(asked: &[u8], tape: &mut [u8], buffer: &mut [u8], out: &mut [u8], at: usize) -> usize {
+pub fn entry(
+    asked: &[u8],
+    tape: &mut [u8],
+    buffer: &mut [u8],
+    out: &mut Output,
+    at: usize,
+) -> usize {
     let tapes = rest(behind_profile(asked));
     let n = rows_of(correction_in(tapes), tape);
     let m = rows_of(master_in(tapes), buffer);
@@ -125,7 +131,7 @@ pub fn entry(asked: &[u8], tape: &mut [u8], buffer: &mut [u8], out: &mut [u8], a
 }
 
 // CI: entry n of the corrected listing, by the numbers of both tapes.
-pub fn indexed(asked: &[u8], out: &mut [u8], at: usize) -> usize {
+pub fn indexed(asked: &[u8], out: &mut Output, at: usize) -> usize {
     let lists = rest(asked);
     let mut correction = [0u64; 100];
     let mut master = [0u64; 100];

@@ -2,7 +2,7 @@
 ghost use Rattle.std.specs.Prelude.{◌≤◌, length};
 
 use crate::answers::{
-    put, put_all, put_checked, put_counted, put_decimal, put_number, put_refused, put_rows,
+    Output, put, put_all, put_checked, put_counted, put_decimal, put_number, put_refused, put_rows,
     put_value,
 };
 use crate::asked::{
@@ -11,6 +11,7 @@ use crate::asked::{
 use crate::records::{put_record, record_of};
 use images::Updated;
 use index::{Located, NO_NUMBER};
+use text::finding::find_byte;
 
 // How many places of an array are lent.
 pub fn places_in(text: &[u8]) -> usize
@@ -22,7 +23,7 @@ pub fn places_in(text: &[u8]) -> usize
 
 // What stands behind the first comma; all of the text where it has none.
 pub fn behind_comma(text: &[u8]) -> &[u8] {
-    let comma = bytes::scan::find(text, 0, text.len(), b',');
+    let comma = find_byte(text, 0, text.len(), b',');
     if comma < text.len() {
         return &text[comma + 1..];
     }
@@ -76,7 +77,7 @@ fn firsts_of(list: &[u8], firsts: &mut [usize]) -> usize
     while n < firsts.len() {
         firsts[n] = number(&list[at..]) as usize;
         n += 1;
-        let comma = bytes::scan::find(list, at, list.len(), b',');
+        let comma = find_byte(list, at, list.len(), b',');
         if list.len() <= comma {
             return n;
         }
@@ -97,7 +98,7 @@ pub fn numbers_of(list: &[u8], numbers: &mut [u64]) -> usize
     while n < numbers.len() {
         numbers[n] = marked_of(&list[at..]);
         n += 1;
-        let comma = bytes::scan::find(list, at, list.len(), b',');
+        let comma = find_byte(list, at, list.len(), b',');
         if list.len() <= comma {
             return n;
         }
@@ -107,7 +108,7 @@ pub fn numbers_of(list: &[u8], numbers: &mut [u64]) -> usize
 }
 
 // What stands before an entry of a list.
-pub fn put_between(out: &mut [u8], at: usize, i: usize) -> usize {
+pub fn put_between(out: &mut Output, at: usize, i: usize) -> usize {
     if i == 0 {
         return put(out, at, b' ');
     }
@@ -115,7 +116,7 @@ pub fn put_between(out: &mut [u8], at: usize, i: usize) -> usize {
 }
 
 // A space and the first rows; a dot for none.
-pub fn put_firsts(out: &mut [u8], start: usize, firsts: &[usize]) -> usize {
+pub fn put_firsts(out: &mut Output, start: usize, firsts: &[usize]) -> usize {
     if firsts.len() == 0 {
         return put_all(out, start, b" .");
     }
@@ -130,7 +131,7 @@ pub fn put_firsts(out: &mut [u8], start: usize, firsts: &[usize]) -> usize {
 }
 
 // A number, or a dash for the mark.
-fn put_marked(out: &mut [u8], at: usize, n: u64) -> usize {
+fn put_marked(out: &mut Output, at: usize, n: u64) -> usize {
     if n == NO_NUMBER {
         return put(out, at, b'-');
     }
@@ -138,7 +139,7 @@ fn put_marked(out: &mut [u8], at: usize, n: u64) -> usize {
 }
 
 // A space and the numbers; a dot for none.
-fn put_numbers(out: &mut [u8], start: usize, numbers: &[u64]) -> usize {
+fn put_numbers(out: &mut Output, start: usize, numbers: &[u64]) -> usize {
     if numbers.len() == 0 {
         return put_all(out, start, b" .");
     }
@@ -153,7 +154,7 @@ fn put_numbers(out: &mut [u8], start: usize, numbers: &[u64]) -> usize {
 }
 
 // Both arrays.
-fn put_arrays(out: &mut [u8], at: usize, firsts: &[usize], numbers: &[u64]) -> usize {
+fn put_arrays(out: &mut Output, at: usize, firsts: &[usize], numbers: &[u64]) -> usize {
     let next = put_firsts(out, at, firsts);
     put_numbers(out, next, numbers)
 }
@@ -165,7 +166,7 @@ fn build_into(
     firsts: &mut [usize],
     numbers: &mut [u64],
     first: u64,
-    out: &mut [u8],
+    out: &mut Output,
     at: usize,
 ) -> usize {
     fill_firsts(firsts, first);
@@ -183,7 +184,7 @@ fn build_into(
 }
 
 // The index of a tape, in as many places as are asked.
-fn build_of(asked: &[u8], tape: &[u8], out: &mut [u8], at: usize) -> usize {
+fn build_of(asked: &[u8], tape: &[u8], out: &mut Output, at: usize) -> usize {
     let places = behind_profile(asked);
     let mut firsts = [0usize; 100];
     let mut numbers = [0u64; 100];
@@ -201,7 +202,7 @@ fn build_of(asked: &[u8], tape: &[u8], out: &mut [u8], at: usize) -> usize {
 }
 
 // IB: the index of a tape.
-pub fn build(asked: &[u8], tape: &mut [u8], out: &mut [u8], at: usize) -> usize {
+pub fn build(asked: &[u8], tape: &mut [u8], out: &mut Output, at: usize) -> usize {
     let places = behind_profile(asked);
     let n = rows_of(rest(rest(places)), tape);
     build_of(asked, &tape[0..n], out, at)
@@ -228,7 +229,7 @@ fn lay_image(text: &[u8], first: u64, buffer: &mut [u8]) -> usize
 }
 
 // Rows and blocks of an image that was changed.
-fn put_updated(out: &mut [u8], at: usize, answer: Updated) -> usize {
+fn put_updated(out: &mut Output, at: usize, answer: Updated) -> usize {
     match answer {
         Updated::To(image) => {
             let rows = image.rows;
@@ -244,13 +245,13 @@ fn put_updated(out: &mut [u8], at: usize, answer: Updated) -> usize {
 
 // What stands before the bar behind a record.
 fn before_bar(text: &[u8]) -> &[u8] {
-    let bar = bytes::scan::find(text, 0, text.len(), b'|');
+    let bar = find_byte(text, 0, text.len(), b'|');
     &text[0..bar]
 }
 
 // What stands behind it, and behind the space that follows.
 fn behind_bar(text: &[u8]) -> &[u8] {
-    let bar = bytes::scan::find(text, 0, text.len(), b'|');
+    let bar = find_byte(text, 0, text.len(), b'|');
     rest(&text[bar..])
 }
 
@@ -284,7 +285,7 @@ fn append_into(
     firsts: &mut [usize],
     numbers: &mut [u64],
     first: u64,
-    out: &mut [u8],
+    out: &mut Output,
     at: usize,
 ) -> usize {
     fill_firsts(firsts, first);
@@ -296,7 +297,7 @@ fn append_into(
 }
 
 // The same, with the image laid into its buffer, and in as many places as are asked.
-fn append_in(asked: &[u8], room: &[u8], image: &mut [u8], out: &mut [u8], at: usize) -> usize {
+fn append_in(asked: &[u8], room: &[u8], image: &mut [u8], out: &mut Output, at: usize) -> usize {
     let places = part(behind_profile(asked));
     let first = rest(room);
     let record = rest(first);
@@ -323,7 +324,7 @@ pub fn append(
     asked: &[u8],
     tape: &mut [u8],
     buffer: &mut [u8],
-    out: &mut [u8],
+    out: &mut Output,
     at: usize,
 ) -> usize {
     let room = rest(behind_profile(asked));
@@ -334,7 +335,7 @@ pub fn append(
 }
 
 // The last block taken off an image that is laid into its buffer.
-fn take_off_in(asked: &[u8], first: &[u8], image: &mut [u8], out: &mut [u8], at: usize) -> usize {
+fn take_off_in(asked: &[u8], first: &[u8], image: &mut [u8], out: &mut Output, at: usize) -> usize {
     let rows = lay_image(rest(first), number(first), image);
     let answer = images::take_off(
         narrow(asked),
@@ -352,7 +353,7 @@ pub fn take_off(
     asked: &[u8],
     tape: &mut [u8],
     buffer: &mut [u8],
-    out: &mut [u8],
+    out: &mut Output,
     at: usize,
 ) -> usize {
     let room = behind_profile(asked);
@@ -399,7 +400,7 @@ fn append_to(
     record: &[u8],
     image: &mut [u8],
     rows: usize,
-    out: &mut [u8],
+    out: &mut Output,
     at: usize,
 ) -> usize {
     let places = part(behind_profile(asked));
@@ -419,7 +420,7 @@ fn append_to(
 }
 
 // IL: a record appended to an image of a head, a remark and NUL.
-pub fn append_long(asked: &[u8], out: &mut [u8], at: usize) -> usize {
+pub fn append_long(asked: &[u8], out: &mut Output, at: usize) -> usize {
     let room = rest(behind_profile(asked));
     let rows = rest(room);
     let size = long_size(room, rows);
@@ -435,7 +436,7 @@ pub fn append_long(asked: &[u8], out: &mut [u8], at: usize) -> usize {
 }
 
 // A block of a tape as a record, by the first rows of all blocks.
-fn block_of(asked: &[u8], tape: &[u8], out: &mut [u8], at: usize) -> usize {
+fn block_of(asked: &[u8], tape: &[u8], out: &mut Output, at: usize) -> usize {
     let wanted = behind_profile(asked);
     let mut firsts = [0usize; 100];
     let k = firsts_of(part(rest(wanted)), &mut firsts);
@@ -454,14 +455,14 @@ fn block_of(asked: &[u8], tape: &[u8], out: &mut [u8], at: usize) -> usize {
 }
 
 // IW: block n as a record, by the first rows of all blocks.
-pub fn block(asked: &[u8], tape: &mut [u8], out: &mut [u8], at: usize) -> usize {
+pub fn block(asked: &[u8], tape: &mut [u8], out: &mut Output, at: usize) -> usize {
     let wanted = behind_profile(asked);
     let n = rows_of(rest(rest(wanted)), tape);
     block_of(asked, &tape[0..n], out, at)
 }
 
 // The rows of a block of a tape, by the first rows of all blocks.
-fn rows_found(asked: &[u8], tape: &[u8], out: &mut [u8], at: usize) -> usize {
+fn rows_found(asked: &[u8], tape: &[u8], out: &mut Output, at: usize) -> usize {
     let wanted = behind_profile(asked);
     let mut firsts = [0usize; 100];
     let k = firsts_of(part(rest(wanted)), &mut firsts);
@@ -483,14 +484,14 @@ fn rows_found(asked: &[u8], tape: &[u8], out: &mut [u8], at: usize) -> usize {
 }
 
 // IP: the rows of block n, by the first rows of all blocks.
-pub fn part_of(asked: &[u8], tape: &mut [u8], out: &mut [u8], at: usize) -> usize {
+pub fn part_of(asked: &[u8], tape: &mut [u8], out: &mut Output, at: usize) -> usize {
     let wanted = behind_profile(asked);
     let n = rows_of(rest(rest(wanted)), tape);
     rows_found(asked, &tape[0..n], out, at)
 }
 
 // IN: the first block with a number.
-pub fn find(asked: &[u8], out: &mut [u8], at: usize) -> usize {
+pub fn find(asked: &[u8], out: &mut Output, at: usize) -> usize {
     let mut numbers = [0u64; 100];
     let k = numbers_of(part(rest(asked)), &mut numbers);
     match index::find_number(&numbers[0..k], marked_of(asked)) {

@@ -1,5 +1,5 @@
 // Cases of the crate lines.
-use crate::answers::{put_all, put_counted, put_number, put_refused, put_rows, put_value};
+use crate::answers::{Output, put_all, put_counted, put_number, put_refused, put_rows, put_value};
 use crate::asked::{
     behind_profile, fill, narrow, number, profile_of, rest, room_in, rows_of, shorthand_of, text_of,
 };
@@ -8,7 +8,7 @@ use reading::Counted;
 use rows::Refusal;
 
 // O: the header of an input.
-pub fn header(asked: &[u8], input: &mut [u8], out: &mut [u8], at: usize) -> usize {
+pub fn header(asked: &[u8], input: &mut [u8], out: &mut Output, at: usize) -> usize {
     let n = text_of(asked, input);
     let header = lines::input::read_header(&input[0..n]);
     let edition = put_all(out, at, b" 0 0");
@@ -19,7 +19,7 @@ pub fn header(asked: &[u8], input: &mut [u8], out: &mut [u8], at: usize) -> usiz
 }
 
 // L: the number of blocks that are listed.
-pub fn listed(asked: &[u8], tape: &mut [u8], out: &mut [u8], at: usize) -> usize {
+pub fn listed(asked: &[u8], tape: &mut [u8], out: &mut Output, at: usize) -> usize {
     let n = rows_of(behind_profile(asked), tape);
     put_counted(
         out,
@@ -41,7 +41,7 @@ fn counted_of(number: u32, place: usize, value: usize) -> Counted {
     Counted::Refused(Refusal { number, place })
 }
 
-fn put_printed(out: &mut [u8], at: usize, answer: Printed) -> usize {
+fn put_printed(out: &mut Output, at: usize, answer: Printed) -> usize {
     match answer {
         Printed::Bytes(n) => put_value(out, at, n as u64),
         Printed::Refused(r) => put_refused(out, at, r),
@@ -49,7 +49,7 @@ fn put_printed(out: &mut [u8], at: usize, answer: Printed) -> usize {
 }
 
 // Z: the last line of a listing.
-pub fn last(asked: &[u8], buffer: &mut [u8], out: &mut [u8], at: usize) -> usize {
+pub fn last(asked: &[u8], buffer: &mut [u8], out: &mut Output, at: usize) -> usize {
     let place = rest(asked);
     let value = rest(place);
     let lent = rest(value);

@@ -1,7 +1,7 @@
 // Answers the lines on standard input, as LINES.md says. The proofs here are of safety alone.
 #![tactic(auto)]
 
-ghost use Rattle.std.specs.Prelude.{◌≤◌, length};
+ghost use Rattle.std.specs.Prelude.{◌≤◌, length, IfOk};
 
 mod answers;
 mod asked;
@@ -16,8 +16,10 @@ mod salvage_cases;
 mod shorthand_cases;
 mod speed_cases;
 
-use answers::{put, put_all, write_out};
-use libc::STDIN_FILENO;
+use answers::{Output, put, put_all, write_bytes, write_out};
+use std::io;
+use std::io::Read;
+use text::finding::find_byte;
 
 // A line that is longer is written as it is.
 const MOST: usize = 60000;
@@ -28,6 +30,11 @@ struct Held {
     bytes: usize,
     long: bool,
     open: bool,
+}
+
+// Room for what is read, and for tapes.
+fn large_buffer() -> [u8; 65536] {
+    [0; 65536]
 }
 
 // As many NUL rows as are just too many.
@@ -41,7 +48,7 @@ fn answer_reading(
     asked: &[u8],
     tape: &mut [u8],
     blank: &[u8],
-    out: &mut [u8],
+    out: &mut Output,
     at: usize,
 ) -> usize {
     match letter {
@@ -68,7 +75,7 @@ fn answer_punching(
     asked: &[u8],
     tape: &mut [u8],
     buffer: &mut [u8],
-    out: &mut [u8],
+    out: &mut Output,
     at: usize,
 ) -> usize {
     match letter {
@@ -92,7 +99,7 @@ fn answer_index(
     asked: &[u8],
     tape: &mut [u8],
     buffer: &mut [u8],
-    out: &mut [u8],
+    out: &mut Output,
     at: usize,
 ) -> usize {
     match letter {
@@ -113,7 +120,7 @@ fn answer_corrections(
     asked: &[u8],
     tape: &mut [u8],
     buffer: &mut [u8],
-    out: &mut [u8],
+    out: &mut Output,
     at: usize,
 ) -> usize {
     match letter {
@@ -125,7 +132,7 @@ fn answer_corrections(
 }
 
 // What is asked of damaged tapes.
-fn answer_salvage(letter: u8, asked: &[u8], tape: &mut [u8], out: &mut [u8], at: usize) -> usize {
+fn answer_salvage(letter: u8, asked: &[u8], tape: &mut [u8], out: &mut Output, at: usize) -> usize {
     match letter {
         b'V' => salvage_cases::save(asked, tape, out, at),
         _ => at,
@@ -162,7 +169,7 @@ fn answer_letter(
     tape: &mut [u8],
     buffer: &mut [u8],
     blank: &[u8],
-    out: &mut [u8],
+    out: &mut Output,
     at: usize,
 ) -> usize {
     if line.len() < 2 {
@@ -179,7 +186,7 @@ fn answer_pair(
     line: &[u8],
     tape: &mut [u8],
     buffer: &mut [u8],
-    out: &mut [u8],
+    out: &mut Output,
     at: usize,
 ) -> usize {
     if line.len() < 3 {
@@ -202,7 +209,7 @@ fn run_line(
     tape: &mut [u8],
     buffer: &mut [u8],
     blank: &[u8],
-    out: &mut [u8],
+    out: &mut Output,
     start: usize,
 ) -> usize {
     let at = put_all(out, start, line);
@@ -226,7 +233,7 @@ fn run_lines(
     tape: &mut [u8],
     buffer: &mut [u8],
     blank: &[u8],
-    out: &mut [u8],
+    out: &mut Output,
 ) -> usize
     ensures { result ≤ length read.now }
 {
@@ -234,7 +241,7 @@ fn run_lines(
     let mut from = 0;
     let mut plain = long;
     while from < read.len() {
-        let lf = bytes::scan::find(read, from, read.len(), b'\n');
+        let lf = find_byte(read, from, read.len(), b'\n');
         if read.len() <= lf {
             write_out(out, at);
             return from;
@@ -254,7 +261,7 @@ fn run_last(
     tape: &mut [u8],
     buffer: &mut [u8],
     blank: &[u8],
-    out: &mut [u8],
+    out: &mut Output,
 ) {
     if 0 < line.len() || long {
         let at = run_line(line, long, tape, buffer, blank, out, 0);
@@ -263,14 +270,14 @@ fn run_last(
 }
 
 // Reads once, behind the bytes that are held; answers how many bytes there are then.
-fn read_more(input: &mut [u8], held: usize) -> usize
-    ensures { result ≤ length input.new }
+fn read_more<R: Read>(from: &mut R, input: &mut [u8], held: usize) -> io::Result<usize>
+    ensures { IfOk result (λ n. n ≤ length input.new) }
 {
     if input.len() <= held {
-        return input.len();
+        return Ok(input.len());
     }
-    let got = libc::read(STDIN_FILENO, &mut input[held..]);
-    held + io::count(got, &input[held..])
+    let got = from.read(&mut input[held..])?;
+    Ok(held + got)
 }
 
 // What stands from one place up to another, moved to the front; answers how much that is.
@@ -291,32 +298,33 @@ fn move_front(input: &mut [u8], from: usize, to: usize) -> usize
 }
 
 // Reads once and answers what lines that ends; at the end of the input the last line, which may lack its LF.
-fn take_turn(
+fn take_turn<R: Read>(
+    from: &mut R,
     held: Held,
     input: &mut [u8],
     tape: &mut [u8],
     buffer: &mut [u8],
     blank: &[u8],
-    out: &mut [u8],
-) -> Held {
+    out: &mut Output,
+) -> io::Result<Held> {
     let bytes = held.bytes;
     let long = held.long;
-    let n = read_more(input, bytes);
+    let n = read_more(from, input, bytes)?;
     if n <= bytes {
         run_last(&input[0..n], long, tape, buffer, blank, out);
-        return Held {
+        return Ok(Held {
             bytes: 0,
             long: false,
             open: false,
-        };
+        });
     }
-    let from = run_lines(&input[0..n], long, tape, buffer, blank, out);
-    let kept = move_front(input, from, n);
-    hold(input, kept, long && from == 0)
+    let rest = run_lines(&input[0..n], long, tape, buffer, blank, out);
+    let kept = move_front(input, rest, n);
+    Ok(hold(input, kept, long && rest == 0, out))
 }
 
 // What is held of a line that has begun: nothing of one that is too long, which is written as it comes.
-fn hold(input: &[u8], bytes: usize, long: bool) -> Held {
+fn hold(input: &[u8], bytes: usize, long: bool, out: &mut Output) -> Held {
     if !long && bytes <= MOST {
         return Held {
             bytes,
@@ -324,7 +332,9 @@ fn hold(input: &[u8], bytes: usize, long: bool) -> Held {
             open: true,
         };
     }
-    write_out(input, bytes);
+    if bytes <= input.len() {
+        write_bytes(out, &input[0..bytes]);
+    }
     Held {
         bytes: 0,
         long: true,
@@ -333,7 +343,14 @@ fn hold(input: &[u8], bytes: usize, long: bool) -> Held {
 }
 
 // A proved loop has to end, and nothing says that the input does: the turns count down from a number that no run uses up.
-fn run_all(input: &mut [u8], tape: &mut [u8], buffer: &mut [u8], blank: &[u8], out: &mut [u8]) {
+fn run_all<R: Read>(
+    from: &mut R,
+    input: &mut [u8],
+    tape: &mut [u8],
+    buffer: &mut [u8],
+    blank: &[u8],
+    out: &mut Output,
+) -> io::Result<()> {
     let mut held = Held {
         bytes: 0,
         long: false,
@@ -342,19 +359,28 @@ fn run_all(input: &mut [u8], tape: &mut [u8], buffer: &mut [u8], blank: &[u8], o
     let mut turns = u64::MAX;
     while 0 < turns {
         turns -= 1;
-        let next = take_turn(held, input, tape, buffer, blank, out);
+        let next = take_turn(from, held, input, tape, buffer, blank, out)?;
+        out.outcome()?;
         if !next.open {
-            return;
+            return Ok(());
         }
         held = next;
     }
+    Ok(())
 }
 
-fn main() {
-    let mut input = io::large_buffer();
-    let mut tape = io::large_buffer();
-    let mut buffer = io::large_buffer();
-    let mut out = io::large_buffer();
+fn main(rt: HostRuntime) -> io::Result<()> {
+    let mut input = large_buffer();
+    let mut tape = large_buffer();
+    let mut buffer = large_buffer();
+    let mut out = Output::new(rt.stdout());
     let blank = blank_tape();
-    run_all(&mut input, &mut tape, &mut buffer, &blank[..], &mut out);
+    run_all(
+        &mut rt.stdin(),
+        &mut input,
+        &mut tape,
+        &mut buffer,
+        &blank[..],
+        &mut out,
+    )
 }

@@ -1,7 +1,7 @@
 // Cases of the crate punching.
 ghost use Rattle.std.specs.Prelude.{◌≤◌, length};
 
-use crate::answers::{put_all, put_counted, put_number, put_refused, put_rows, put_value};
+use crate::answers::{Output, put_all, put_counted, put_number, put_refused, put_rows, put_value};
 use crate::asked::{
     behind_profile, fill, integer, narrow, number, profile_of, rest, room_in, rows_of, shorthand_of,
 };
@@ -12,7 +12,7 @@ use reading::Block;
 use rows::Checked;
 
 // How many rows were written.
-fn put_written(out: &mut [u8], at: usize, answer: Punched) -> usize {
+fn put_written(out: &mut Output, at: usize, answer: Punched) -> usize {
     match answer {
         Punched::Rows(n) => put_value(out, at, n as u64),
         Punched::Refused(r) => put_refused(out, at, r),
@@ -20,13 +20,13 @@ fn put_written(out: &mut [u8], at: usize, answer: Punched) -> usize {
 }
 
 // The same, and the whole buffer.
-fn put_punched(out: &mut [u8], at: usize, answer: Punched, buffer: &[u8]) -> usize {
+fn put_punched(out: &mut Output, at: usize, answer: Punched, buffer: &[u8]) -> usize {
     let next = put_written(out, at, answer);
     put_rows(out, next, buffer)
 }
 
 // H: the head.
-pub fn head(asked: &[u8], buffer: &mut [u8], out: &mut [u8], at: usize) -> usize {
+pub fn head(asked: &[u8], buffer: &mut [u8], out: &mut Output, at: usize) -> usize {
     let room = room_in(buffer, asked);
     fill(&mut buffer[0..room], number(rest(asked)), 1);
     let answer = punching::punch_head(&mut buffer[0..room]);
@@ -34,7 +34,7 @@ pub fn head(asked: &[u8], buffer: &mut [u8], out: &mut [u8], at: usize) -> usize
 }
 
 // U: how many rows a record needs.
-pub fn measure(asked: &[u8], out: &mut [u8], at: usize) -> usize {
+pub fn measure(asked: &[u8], out: &mut Output, at: usize) -> usize {
     let block = record_of(behind_profile(asked));
     match punching::measure_block(narrow(asked), shorthand_of(asked), profile_of(asked), block) {
         Measured::Rows(n) => put_value(out, at, n as u64),
@@ -43,7 +43,7 @@ pub fn measure(asked: &[u8], out: &mut [u8], at: usize) -> usize {
 }
 
 // V: a record written.
-pub fn write(asked: &[u8], buffer: &mut [u8], out: &mut [u8], at: usize) -> usize {
+pub fn write(asked: &[u8], buffer: &mut [u8], out: &mut Output, at: usize) -> usize {
     let lent = behind_profile(asked);
     let first = rest(lent);
     let room = room_in(buffer, lent);
@@ -70,7 +70,7 @@ fn punch_under(asked: &[u8], block: Block, buffer: &mut [u8]) -> Punched {
 }
 
 // J: a record.
-pub fn record(asked: &[u8], buffer: &mut [u8], out: &mut [u8], at: usize) -> usize {
+pub fn record(asked: &[u8], buffer: &mut [u8], out: &mut Output, at: usize) -> usize {
     let lent = behind_profile(asked);
     let first = rest(lent);
     let room = room_in(buffer, lent);
@@ -81,7 +81,13 @@ pub fn record(asked: &[u8], buffer: &mut [u8], out: &mut [u8], at: usize) -> usi
 }
 
 // D: block n of a tape.
-pub fn again(asked: &[u8], tape: &mut [u8], buffer: &mut [u8], out: &mut [u8], at: usize) -> usize {
+pub fn again(
+    asked: &[u8],
+    tape: &mut [u8],
+    buffer: &mut [u8],
+    out: &mut Output,
+    at: usize,
+) -> usize {
     let lent = behind_profile(asked);
     let wanted = rest(lent);
     let n = rows_of(rest(wanted), tape);
@@ -139,7 +145,7 @@ pub fn round(
     asked: &[u8],
     tape: &mut [u8],
     punched: &mut [u8],
-    out: &mut [u8],
+    out: &mut Output,
     at: usize,
 ) -> usize {
     let n = rows_of(behind_profile(asked), tape);
@@ -149,7 +155,7 @@ pub fn round(
 }
 
 // A: sign and magnitude.
-pub fn magnitude(asked: &[u8], out: &mut [u8], at: usize) -> usize {
+pub fn magnitude(asked: &[u8], out: &mut Output, at: usize) -> usize {
     let m = punching::magnitude_of(integer(asked));
     if m.minus {
         let next = put_all(out, at, b" -");

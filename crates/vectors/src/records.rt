@@ -1,5 +1,5 @@
 // A record as it is asked and as it is written.
-use crate::answers::{put, put_all, put_decimal, put_number};
+use crate::answers::{Output, put, put_all, put_decimal, put_number};
 use crate::asked::{
     behind_first, byte, digit_of, first_of, integer, next_part, number, part, rest,
 };
@@ -105,7 +105,7 @@ fn places_written(block: Block) -> usize {
 }
 
 // An address, or the number of what is none.
-fn put_letter(out: &mut [u8], start: usize, letter: u8) -> usize {
+fn put_letter(out: &mut Output, start: usize, letter: u8) -> usize {
     if letter < b'A' || b'Z' < letter {
         let at = put(out, start, b'#');
         return put_decimal(out, at, letter as u64);
@@ -113,7 +113,7 @@ fn put_letter(out: &mut [u8], start: usize, letter: u8) -> usize {
     put(out, start, letter)
 }
 
-fn put_dimension(out: &mut [u8], start: usize, z: i64) -> usize {
+fn put_dimension(out: &mut Output, start: usize, z: i64) -> usize {
     let m = punching::magnitude_of(z);
     let at = put(out, start, b'D');
     if m.minus {
@@ -123,17 +123,17 @@ fn put_dimension(out: &mut [u8], start: usize, z: i64) -> usize {
     put_decimal(out, at, m.size)
 }
 
-fn put_kind(out: &mut [u8], start: usize, kind: u8, v: u64) -> usize {
+fn put_kind(out: &mut Output, start: usize, kind: u8, v: u64) -> usize {
     let at = put(out, start, kind);
     put_decimal(out, at, v)
 }
 
-fn put_said(out: &mut [u8], start: usize, speed: Speed) -> usize {
+fn put_said(out: &mut Output, start: usize, speed: Speed) -> usize {
     let at = put(out, start, b'S');
     put_speed(out, at, speed)
 }
 
-fn put_word(out: &mut [u8], start: usize, word: Word) -> usize {
+fn put_word(out: &mut Output, start: usize, word: Word) -> usize {
     let value = word.value;
     let letter = put(out, start, b' ');
     let at = put_letter(out, letter, word.letter);
@@ -144,7 +144,7 @@ fn put_word(out: &mut [u8], start: usize, word: Word) -> usize {
     }
 }
 
-fn put_words(out: &mut [u8], start: usize, block: Block) -> usize {
+fn put_words(out: &mut Output, start: usize, block: Block) -> usize {
     let most = places_written(block);
     let mut at = start;
     let mut i: usize = 0;
@@ -156,7 +156,7 @@ fn put_words(out: &mut [u8], start: usize, block: Block) -> usize {
     at
 }
 
-fn put_either(out: &mut [u8], start: usize, first: bool, a: u8, b: u8) -> usize {
+fn put_either(out: &mut Output, start: usize, first: bool, a: u8, b: u8) -> usize {
     let at = put(out, start, b' ');
     if first {
         return put(out, at, a);
@@ -165,7 +165,7 @@ fn put_either(out: &mut [u8], start: usize, first: bool, a: u8, b: u8) -> usize 
 }
 
 // A number, or "-" where there is none, and behind it what its field holds.
-fn put_sequence(out: &mut [u8], start: usize, numbered: bool, sequence: u64) -> usize {
+fn put_sequence(out: &mut Output, start: usize, numbered: bool, sequence: u64) -> usize {
     if numbered {
         return put_number(out, start, sequence);
     }
@@ -176,7 +176,7 @@ fn put_sequence(out: &mut [u8], start: usize, numbered: bool, sequence: u64) -> 
     put_decimal(out, at, sequence)
 }
 
-pub fn put_record(out: &mut [u8], start: usize, block: Block) -> usize {
+pub fn put_record(out: &mut Output, start: usize, block: Block) -> usize {
     let skip = block.skip;
     let alignment = block.alignment;
     let next = put_either(out, start, skip, b'/', b'-');

@@ -1,11 +1,13 @@
 // Cases of the crate rows, and of the head.
-use crate::answers::{put, put_all, put_checked, put_decimal, put_number, put_refused, put_value};
+use crate::answers::{
+    Output, put, put_all, put_checked, put_decimal, put_number, put_refused, put_value,
+};
 use crate::asked::{byte, number, rows_of};
 use parts::EndRead;
 use rows::Next;
 
 // E: the table's entry of a row, and its holes by the count.
-pub fn entry(asked: &[u8], out: &mut [u8], at: usize) -> usize {
+pub fn entry(asked: &[u8], out: &mut Output, at: usize) -> usize {
     let row = byte(asked);
     let next = put_number(out, at, rows::entry_of(row) as u64);
     if rows::has_even_holes(row) {
@@ -15,13 +17,13 @@ pub fn entry(asked: &[u8], out: &mut [u8], at: usize) -> usize {
 }
 
 // R: the first three stages.
-pub fn stages(asked: &[u8], tape: &mut [u8], out: &mut [u8], at: usize) -> usize {
+pub fn stages(asked: &[u8], tape: &mut [u8], out: &mut Output, at: usize) -> usize {
     let n = rows_of(asked, tape);
     put_checked(out, at, rows::check(&tape[0..n]))
 }
 
 // M: the first three stages of so many NUL rows.
-pub fn many(asked: &[u8], blank: &[u8], out: &mut [u8], at: usize) -> usize {
+pub fn many(asked: &[u8], blank: &[u8], out: &mut Output, at: usize) -> usize {
     let n = number(asked);
     if n < blank.len() as u64 {
         return put_checked(out, at, rows::check(&blank[0..n as usize]));
@@ -29,7 +31,7 @@ pub fn many(asked: &[u8], blank: &[u8], out: &mut [u8], at: usize) -> usize {
     put_checked(out, at, rows::check(blank))
 }
 
-fn put_kept(out: &mut [u8], start: usize, tape: &[u8]) -> usize {
+fn put_kept(out: &mut Output, start: usize, tape: &[u8]) -> usize {
     let mut at = start;
     let mut from: usize = 0;
     while from < tape.len() {
@@ -53,13 +55,13 @@ fn put_kept(out: &mut [u8], start: usize, tape: &[u8]) -> usize {
 }
 
 // K: the kept rows.
-pub fn kept(asked: &[u8], tape: &mut [u8], out: &mut [u8], at: usize) -> usize {
+pub fn kept(asked: &[u8], tape: &mut [u8], out: &mut Output, at: usize) -> usize {
     let n = rows_of(asked, tape);
     put_kept(out, at, &tape[0..n])
 }
 
 // T: the first three stages and the head.
-pub fn head(asked: &[u8], tape: &mut [u8], out: &mut [u8], at: usize) -> usize {
+pub fn head(asked: &[u8], tape: &mut [u8], out: &mut Output, at: usize) -> usize {
     let n = rows_of(asked, tape);
     match parts::ends::enter_tape(&tape[0..n]) {
         EndRead::At(lf, _) => put_value(out, at, lf as u64),

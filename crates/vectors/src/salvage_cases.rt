@@ -1,5 +1,5 @@
 // Cases of the crate salvage.
-use crate::answers::{put_all, put_decimal, put_refused, put_rows, put_value};
+use crate::answers::{Output, put_all, put_decimal, put_refused, put_rows, put_value};
 use crate::asked::{behind_profile, narrow, number, part, profile_of, rest, rows_of, shorthand_of};
 use crate::index_cases::{behind_comma, fill_firsts, places_in, put_between, put_firsts};
 use salvage::Salvaged;
@@ -20,7 +20,7 @@ fn wide(number: u32) -> u64 {
 }
 
 // A space and the refusals' numbers; a dot for none.
-fn put_refusals(out: &mut [u8], start: usize, numbers: &[u32]) -> usize {
+fn put_refusals(out: &mut Output, start: usize, numbers: &[u32]) -> usize {
     if numbers.len() == 0 {
         return put_all(out, start, b" .");
     }
@@ -35,7 +35,7 @@ fn put_refusals(out: &mut [u8], start: usize, numbers: &[u32]) -> usize {
 }
 
 // How many pieces were overpunched.
-fn put_salvaged(out: &mut [u8], at: usize, answer: Salvaged) -> usize {
+fn put_salvaged(out: &mut Output, at: usize, answer: Salvaged) -> usize {
     match answer {
         Salvaged::Pieces(n) => put_value(out, at, n as u64),
         Salvaged::Refused(r) => put_refused(out, at, r),
@@ -73,7 +73,7 @@ fn save_into(
     sizes: &mut [usize],
     numbers: &mut [u32],
     first: u64,
-    out: &mut [u8],
+    out: &mut Output,
     at: usize,
 ) -> usize {
     let answer = save_under(asked, tape, firsts, sizes, numbers, first);
@@ -85,7 +85,7 @@ fn save_into(
 }
 
 // The same, with lists of as many places as are asked.
-fn save_in(asked: &[u8], tape: &mut [u8], out: &mut [u8], at: usize) -> usize {
+fn save_in(asked: &[u8], tape: &mut [u8], out: &mut Output, at: usize) -> usize {
     let wanted = behind_profile(asked);
     let places = part(wanted);
     let others = behind_comma(places);
@@ -108,7 +108,7 @@ fn save_in(asked: &[u8], tape: &mut [u8], out: &mut [u8], at: usize) -> usize {
 }
 
 // SV: what can be saved of a tape.
-pub fn save(asked: &[u8], tape: &mut [u8], out: &mut [u8], at: usize) -> usize {
+pub fn save(asked: &[u8], tape: &mut [u8], out: &mut Output, at: usize) -> usize {
     let first = rest(behind_profile(asked));
     let n = rows_of(rest(first), tape);
     save_in(asked, &mut tape[0..n], out, at)

@@ -1,9 +1,9 @@
 // Cases of the crate shorthand.
-use crate::answers::{put, put_all, put_checked, put_decimal, put_number};
+use crate::answers::{Output, put, put_all, put_checked, put_decimal, put_number};
 use crate::asked::{narrow, profile_of, rest, shorthand_of};
 use shorthand::{Figures, Format, Item, Kind, Mark, Missing, Parsed};
 
-fn put_mark(out: &mut [u8], at: usize, mark: Mark) -> usize {
+fn put_mark(out: &mut Output, at: usize, mark: Mark) -> usize {
     match mark {
         Mark::Unmarked => put(out, at, b'.'),
         Mark::Plus => put(out, at, b'+'),
@@ -11,7 +11,7 @@ fn put_mark(out: &mut [u8], at: usize, mark: Mark) -> usize {
     }
 }
 
-fn put_missing(out: &mut [u8], at: usize, missing: Missing) -> usize {
+fn put_missing(out: &mut Output, at: usize, missing: Missing) -> usize {
     match missing {
         Missing::Nothing => put(out, at, b'='),
         Missing::Leading => put(out, at, b'L'),
@@ -19,7 +19,7 @@ fn put_missing(out: &mut [u8], at: usize, missing: Missing) -> usize {
     }
 }
 
-fn put_figures(out: &mut [u8], start: usize, d: Figures) -> usize {
+fn put_figures(out: &mut Output, start: usize, d: Figures) -> usize {
     let mark = d.mark;
     let missing = d.missing;
     let dimension = put(out, start, b'D');
@@ -34,12 +34,12 @@ fn put_figures(out: &mut [u8], start: usize, d: Figures) -> usize {
     put(out, next, b's')
 }
 
-fn put_digits(out: &mut [u8], start: usize, kind: u8, digits: u8) -> usize {
+fn put_digits(out: &mut Output, start: usize, kind: u8, digits: u8) -> usize {
     let at = put(out, start, kind);
     put_decimal(out, at, digits as u64)
 }
 
-fn put_item(out: &mut [u8], start: usize, item: Item) -> usize {
+fn put_item(out: &mut Output, start: usize, item: Item) -> usize {
     let kind = item.kind;
     let letter = put(out, start, b' ');
     let at = put(out, letter, item.letter);
@@ -50,7 +50,7 @@ fn put_item(out: &mut [u8], start: usize, item: Item) -> usize {
     }
 }
 
-fn put_items(out: &mut [u8], start: usize, format: Format) -> usize {
+fn put_items(out: &mut Output, start: usize, format: Format) -> usize {
     let count = format.count;
     let mut at = start;
     let mut i: usize = 0;
@@ -62,7 +62,7 @@ fn put_items(out: &mut [u8], start: usize, format: Format) -> usize {
     at
 }
 
-fn put_dots(out: &mut [u8], at: usize, dots: bool, addresses: bool) -> usize {
+fn put_dots(out: &mut Output, at: usize, dots: bool, addresses: bool) -> usize {
     if !dots {
         return put_all(out, at, b" plain");
     }
@@ -73,14 +73,14 @@ fn put_dots(out: &mut [u8], at: usize, dots: bool, addresses: bool) -> usize {
 }
 
 // "-" where a block may have no number.
-fn put_unnumbered(out: &mut [u8], at: usize, unnumbered: bool) -> usize {
+fn put_unnumbered(out: &mut Output, at: usize, unnumbered: bool) -> usize {
     if unnumbered {
         return put(out, at, b'-');
     }
     at
 }
 
-fn put_parsed(out: &mut [u8], at: usize, parsed: Parsed) -> usize {
+fn put_parsed(out: &mut Output, at: usize, parsed: Parsed) -> usize {
     let outcome = parsed.outcome;
     let format = parsed.format;
     let sequence = put_checked(out, at, outcome);
@@ -92,13 +92,13 @@ fn put_parsed(out: &mut [u8], at: usize, parsed: Parsed) -> usize {
 }
 
 // F: the Format of a shorthand under an edition.
-pub fn format(asked: &[u8], out: &mut [u8], at: usize) -> usize {
+pub fn format(asked: &[u8], out: &mut Output, at: usize) -> usize {
     let parsed = shorthand::parse(narrow(asked), rest(asked));
     put_parsed(out, at, parsed)
 }
 
 // G: the Format of a shorthand and a profile under an edition.
-pub fn agreed(asked: &[u8], out: &mut [u8], at: usize) -> usize {
+pub fn agreed(asked: &[u8], out: &mut Output, at: usize) -> usize {
     let parsed = profile::parse(narrow(asked), shorthand_of(asked), profile_of(asked));
     put_parsed(out, at, parsed)
 }

@@ -1,5 +1,5 @@
 // Cases of the crate speeds, and how a speed is asked and written.
-use crate::answers::{put_all, put_decimal, put_number, put_refused, put_value};
+use crate::answers::{Output, put_all, put_decimal, put_number, put_refused, put_value};
 use crate::asked::{first_of, narrow, number, rest};
 use speeds::{Code, Exact, Speed, SpeedRead};
 
@@ -13,7 +13,7 @@ pub fn speed_of(text: &[u8]) -> Speed {
 }
 
 // And as it is written.
-pub fn put_speed(out: &mut [u8], at: usize, speed: Speed) -> usize {
+pub fn put_speed(out: &mut Output, at: usize, speed: Speed) -> usize {
     match speed {
         Speed::Stop => put_all(out, at, b"stop"),
         Speed::Rapid => put_all(out, at, b"rapid"),
@@ -21,13 +21,13 @@ pub fn put_speed(out: &mut [u8], at: usize, speed: Speed) -> usize {
     }
 }
 
-fn put_said(out: &mut [u8], at: usize, speed: Speed) -> usize {
+fn put_said(out: &mut Output, at: usize, speed: Speed) -> usize {
     let next = put_all(out, at, b" 0 0 ");
     put_speed(out, next, speed)
 }
 
 // S: the speed of a code.
-pub fn speed(asked: &[u8], out: &mut [u8], at: usize) -> usize {
+pub fn speed(asked: &[u8], out: &mut Output, at: usize) -> usize {
     match speeds::speed_of(narrow(asked), number(rest(asked))) {
         SpeedRead::Is(s) => put_said(out, at, s),
         SpeedRead::Refused(r) => put_refused(out, at, r),
@@ -35,7 +35,7 @@ pub fn speed(asked: &[u8], out: &mut [u8], at: usize) -> usize {
 }
 
 // C: the code of a speed.
-pub fn code(asked: &[u8], out: &mut [u8], at: usize) -> usize {
+pub fn code(asked: &[u8], out: &mut Output, at: usize) -> usize {
     match speeds::code_of(narrow(asked), speed_of(rest(asked))) {
         Code::Number(c) => put_value(out, at, c),
         Code::Refused(r) => put_refused(out, at, r),
@@ -43,7 +43,7 @@ pub fn code(asked: &[u8], out: &mut [u8], at: usize) -> usize {
 }
 
 // X: the code that means a speed exactly.
-pub fn exact(asked: &[u8], out: &mut [u8], at: usize) -> usize {
+pub fn exact(asked: &[u8], out: &mut Output, at: usize) -> usize {
     match speeds::exact_code(narrow(asked), speed_of(rest(asked))) {
         Exact::Means(c) => put_number(out, at, c),
         _ => at,
