@@ -10,14 +10,18 @@ ghost use Rattle.shorthand.specs.Facts.{Facts};
 
 use index::building::build_under;
 use index::finding::find_entry;
-use libc::{ENAMETOOLONG, STDIN_FILENO, STDOUT_FILENO};
 use lines::input::{count_listed, read_header};
-use printing::{argument_space, put_block, read_profile, write_last};
+use printing::{argument_space, output_space, put_block, read_input, read_profile, write_last};
 use reading::{Block, Counted};
 use rows::{Checked, Refusal};
 use shorthand::{Format, Kind};
 use slides::axes::{AXES, axis_of};
 use slides::{Slides, Travel};
+use std::env::FillError;
+use std::io;
+use std::io::Write;
+use std::rt::Env;
+use text::finding::find_byte;
 use words::{Value, Word};
 
 // The most blocks of 60,000 rows: the shortest block is a letter, a digit and LF.
@@ -112,7 +116,7 @@ fn read_axis(text: &[u8], travel: Travel) -> Given {
     if 14 <= a {
         return wrong;
     }
-    let colon = bytes::scan::find(text, 1, text.len(), b':');
+    let colon = find_byte(text, 1, text.len(), b':');
     if text.len() <= colon {
         return wrong;
     }
@@ -142,7 +146,7 @@ fn read_travel(text: &[u8]) -> Given {
     };
     let mut from: usize = 0;
     while from < text.len() && given.good {
-        let comma = bytes::scan::find(text, from, text.len(), b',');
+        let comma = find_byte(text, from, text.len(), b',');
         let travel = given.travel;
         given = read_axis(&text[from..comma], travel);
         from = comma + 1;
@@ -191,17 +195,25 @@ fn place_block(block: Block, used: [bool; 14], slides: Slides) -> Block {
 }
 
 // The line of a block, with the places of the axes behind it.
-fn write_line(format: Format, block: Block, used: [bool; 14], slides: Slides, out: &mut [u8])
+fn write_line<W: Write>(
+    writer: &mut W,
+    format: Format,
+    block: Block,
+    used: [bool; 14],
+    slides: Slides,
+    out: &mut [u8],
+) -> io::Result<()>
     requires facts { Facts format }
     requires in_bounds { 786 ≤ length out.old }
 {
     let shown = place_block(block, used, slides);
     let size = put_block(out, format.sequence, shown);
-    io::write_all(STDOUT_FILENO, &out[..size]);
+    writer.write_all(&out[..size])
 }
 
 // A line for each block, a step from one to the next; and at the end their number, or the refusal.
-fn write_steps(
+fn write_steps<W: Write>(
+    writer: &mut W,
     edition: u32,
     text: &[u8],
     profile: &[u8],
@@ -210,7 +222,7 @@ fn write_steps(
     firsts: &[usize],
     asked: Asked,
     out: &mut [u8],
-)
+) -> io::Result<()>
     requires facts { Facts format }
     requires in_bounds { 786 ≤ length out.old }
 {
@@ -237,18 +249,25 @@ fn write_steps(
         );
         let outcome = answer.outcome;
         if let Checked::Refused(r) = outcome {
-            write_last(Counted::Refused(r), out);
-            return;
+            return write_last(writer, Counted::Refused(r), out);
         }
         slides = answer.slides;
-        write_line(format, block, used, slides, out);
+        write_line(writer, format, block, used, slides, out)?;
         n += 1;
     }
-    write_last(Counted::Blocks(n), out);
+    write_last(writer, Counted::Blocks(n), out)
 }
 
 // The blocks of a tape that was judged, by its index.
-fn follow_tape(edition: u32, text: &[u8], profile: &[u8], tape: &[u8], asked: Asked, out: &mut [u8])
+fn follow_tape<W: Write>(
+    writer: &mut W,
+    edition: u32,
+    text: &[u8],
+    profile: &[u8],
+    tape: &[u8],
+    asked: Asked,
+    out: &mut [u8],
+) -> io::Result<()>
     requires { 786 ≤ length out.old }
 {
     let mut firsts = [0usize; BLOCKS];
@@ -257,14 +276,14 @@ fn follow_tape(edition: u32, text: &[u8], profile: &[u8], tape: &[u8], asked: As
     let outcome = parsed.outcome;
     let format = parsed.format;
     let Checked::Clean = outcome else {
-        return;
+        return Ok(());
     };
     let built = build_under(tape, format, &mut firsts, &mut numbers);
     let Counted::Blocks(c) = built else {
-        write_last(built, out);
-        return;
+        return write_last(writer, built, out);
     };
     write_steps(
+        writer,
         edition,
         text,
         profile,
@@ -273,22 +292,26 @@ fn follow_tape(edition: u32, text: &[u8], profile: &[u8], tape: &[u8], asked: As
         &firsts[..c],
         asked,
         out,
-    );
+    )
 }
 
 // Standard input, with what the arguments ask for.
-fn follow_input(input: &[u8], profile: &[u8], given: Given, slashed: bool, out: &mut [u8])
+fn follow_input<W: Write>(
+    writer: &mut W,
+    input: &[u8],
+    profile: &[u8],
+    given: Given,
+    slashed: bool,
+    out: &mut [u8],
+) -> io::Result<()>
     requires { 786 ≤ length out.old }
 {
     if !given.good {
-        write_last(
-            Counted::Refused(Refusal {
-                number: 1,
-                place: 0,
-            }),
-            out,
-        );
-        return;
+        let wrong = Refusal {
+            number: 1,
+            place: 0,
+        };
+        return write_last(writer, Counted::Refused(wrong), out);
     }
     let header = read_header(input);
     let from = header.from;
@@ -299,40 +322,41 @@ fn follow_input(input: &[u8], profile: &[u8], given: Given, slashed: bool, out: 
     let tape = &input[rows..];
     let count = count_listed(edition, text, profile, tape);
     let Counted::Blocks(_) = count else {
-        write_last(count, out);
-        return;
+        return write_last(writer, count, out);
     };
     let travel = given.travel;
-    follow_tape(edition, text, profile, tape, Asked { slashed, travel }, out);
+    let asked = Asked { slashed, travel };
+    follow_tape(writer, edition, text, profile, tape, asked, out)
 }
 
 // Whether the second argument is "/".
-fn read_switch() -> bool {
+fn read_switch(rt: &impl Env) -> bool {
     let mut argument = argument_space();
-    let n = os::arg(2, &mut argument);
-    if n == 1 {
-        return argument[0] == b'/';
+    match rt.arg(2, &mut argument) {
+        Ok(n) => n == 1 && argument[0] == b'/',
+        Err(_) => false,
     }
-    false
 }
 
 // The third argument; one that is too long is in no form.
-fn read_third() -> Given {
+fn read_third(rt: &impl Env) -> Given {
     let mut argument = travel_space();
-    let n = os::arg(3, &mut argument);
-    if os::errno() == ENAMETOOLONG {
-        return read_travel(b",");
+    match rt.arg(3, &mut argument) {
+        Ok(n) => read_travel(&argument[..n]),
+        Err(FillError::NotPresent) => read_travel(b""),
+        Err(FillError::TooLong) => read_travel(b","),
     }
-    read_travel(&argument[..n])
 }
 
-fn main() {
+fn main(rt: HostRuntime) -> io::Result<()> {
     let mut space = input_space();
     let mut argument = argument_space();
-    let mut out = io::large_buffer();
-    let size = read_profile(&mut argument);
-    let slashed = read_switch();
-    let given = read_third();
-    let n = io::read_full(STDIN_FILENO, &mut space);
-    follow_input(&space[..n], &argument[..size], given, slashed, &mut out);
+    let mut out = output_space();
+    let size = read_profile(&rt, &mut argument);
+    let slashed = read_switch(&rt);
+    let given = read_third(&rt);
+    let n = read_input(&mut rt.stdin(), &mut space)?;
+    let input = &space[..n];
+    let profile = &argument[..size];
+    follow_input(&mut rt.stdout(), input, profile, given, slashed, &mut out)
 }

@@ -7,7 +7,7 @@ use crate::Travel;
 use rows::{Checked, Refusal};
 
 // X Y Z U V W P Q R A B C D E; I, J and K are not positions.
-pub(crate) const AXES: [u8; 14] = [88, 89, 90, 85, 86, 87, 80, 81, 82, 65, 66, 67, 68, 69];
+pub const AXES: [u8; 14] = [88, 89, 90, 85, 86, 87, 80, 81, 82, 65, 66, 67, 68, 69];
 
 // One million million million.
 const FARTHEST: i64 = 1000000000000000000;
