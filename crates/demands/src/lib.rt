@@ -1,3 +1,2 @@
 // Demands: what the user asked for, as theorems over the answers of the crates below; there is nothing to run.
 #![tactic(auto)]
-

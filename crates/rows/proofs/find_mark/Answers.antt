@@ -11,12 +11,11 @@ neither : (c : Joined-entry-lt40) (x : ℕ) → 40 ≤ x → x < 42 → c.look_u
 neither c x l g e = elim c.if-entry-lt40.branch [ then-entry-lt40 w ↦ omega (arith, l, e, w.if-entry-lt40-1.true) | else-entry-lt40+else-entry-lt42 w ↦ omega (arith, g, e, w.if-entry-lt42-1.false) ]
 
 pub loop-i-preserved : goal.loop-i-preserved
-loop-i-preserved c =
-    (
-      omega (arith, c.loop-i.invariant.0),
-      λ h e. c.loop-i.invariant.1 h e
-          ∙ held_plain _ _ c.loop-i-test.true _ c.look_up-entry.ensures c.if-entry-ge-ODD.false (neither c 40 (omega arith) (omega arith)) (neither c 41 (omega arith) (omega arith)) h (e ∙ c.if-every.false),
-    )
+loop-i-preserved c = (
+  omega (arith, c.loop-i.invariant.0),
+  λ h e. c.loop-i.invariant.1 h e
+      ∙ held_plain _ _ c.loop-i-test.true _ c.look_up-entry.ensures c.if-entry-ge-ODD.false (neither c 40 (omega arith) (omega arith)) (neither c 41 (omega arith) (omega arith)) h (e ∙ c.if-every.false),
+)
 
 pub returns : goal.returns
 returns c = c.loop-i.invariant.1 c.args.held (sym c.is_inside-every.ensures) ∙ held-end _ _ c.loop-i-test.false c.args.held
