@@ -31,13 +31,19 @@ pub slice_bounds-judge_piece-end : goal.slice_bounds-judge_piece-end
 slice_bounds-judge_piece-end c = omega (arith, c.piece_end-end.ensures, piece-within c.args.tape.now c.loop-at.at c.loop-at.invariant.1)
 
 pub overflow_add-lost : goal.overflow_add-lost
-overflow_add-lost c = let k = turn c.args.format c.args.tape.now c.loop-at.at c.loop-at.lost c.piece_end-end.result c.judge_piece-number.result _ c.requires.tape_len_bound.2 c.requires.tape_len_bound.0 c.loop-at.invariant.0 c.loop-at-test.true c.piece_end-end.ensures c.judge_piece-number.ensures c.loop-at.invariant.2 c.loop-at.invariant.3 in record { fits = omega (arith, k.3, c.losses_by-lost.ensures, k.1, c.requires.tape_len_bound.0) }
+overflow_add-lost c =
+    let k = turn c.args.format c.args.tape.now c.loop-at.at c.loop-at.lost c.piece_end-end.result c.judge_piece-number.result _ c.requires.tape_len_bound.2 c.requires.tape_len_bound.0 c.loop-at.invariant.0 c.loop-at-test.true c.piece_end-end.ensures c.judge_piece-number.ensures c.loop-at.invariant.2 c.loop-at.invariant.3 in
+    record { fits = omega (arith, k.3, c.losses_by-lost.ensures, k.1, c.requires.tape_len_bound.0) }
 
 pub loop-at-smaller : goal.loop-at-smaller
-loop-at-smaller c = let k = turn c.args.format c.args.tape.now c.loop-at.at c.loop-at.lost c.piece_end-end.result c.judge_piece-number.result _ c.requires.tape_len_bound.2 c.requires.tape_len_bound.0 c.loop-at.invariant.0 c.loop-at-test.true c.piece_end-end.ensures c.judge_piece-number.ensures c.loop-at.invariant.2 c.loop-at.invariant.3 in omega (arith, k.1, k.4)
+loop-at-smaller c =
+    let k = turn c.args.format c.args.tape.now c.loop-at.at c.loop-at.lost c.piece_end-end.result c.judge_piece-number.result _ c.requires.tape_len_bound.2 c.requires.tape_len_bound.0 c.loop-at.invariant.0 c.loop-at-test.true c.piece_end-end.ensures c.judge_piece-number.ensures c.loop-at.invariant.2 c.loop-at.invariant.3 in
+    omega (arith, k.1, k.4)
 
 pub loop-at-preserved : goal.loop-at-preserved
-loop-at-preserved c = let k = turn c.args.format c.args.tape.now c.loop-at.at c.loop-at.lost c.piece_end-end.result c.judge_piece-number.result _ c.requires.tape_len_bound.2 c.requires.tape_len_bound.0 c.loop-at.invariant.0 c.loop-at-test.true c.piece_end-end.ensures c.judge_piece-number.ensures c.loop-at.invariant.2 c.loop-at.invariant.3 in rw c.losses_by-lost.ensures (k.0, k.1, k.2, k.3)
+loop-at-preserved c =
+    let k = turn c.args.format c.args.tape.now c.loop-at.at c.loop-at.lost c.piece_end-end.result c.judge_piece-number.result _ c.requires.tape_len_bound.2 c.requires.tape_len_bound.0 c.loop-at.invariant.0 c.loop-at-test.true c.piece_end-end.ensures c.judge_piece-number.ensures c.loop-at.invariant.2 c.loop-at.invariant.3 in
+    rw c.losses_by-lost.ensures (k.0, k.1, k.2, k.3)
 
 pub returns : goal.returns
 returns c = count-end _ _ _ _ _ _ c.loop-at-test.false c.loop-at.invariant.2

@@ -1,5 +1,4 @@
 -- `salvage::pieces::piece_end`: a loop to the first LF row; what is counted and what is to come are the whole.
-use Prim.Native.Nat.{◌-◌}
 use mathlib.Core.Path.{sym, ◌∙◌}
 use native.Mathlib.Numerals.{add-one}
 use native.Mathlib.Omega.{arith}

@@ -19,7 +19,15 @@ pub slice_bounds-judge_piece-end : goal.slice_bounds-judge_piece-end
 slice_bounds-judge_piece-end c = omega (arith, c.piece_end-end.ensures, piece-within c.args.tape.now c.args.at c.requires.at_in_bounds)
 
 pub returns-then-number-eq0 : goal.returns-then-number-eq0
-returns-then-number-eq0 c = let q = number_is c.args.format c.args.tape.now c.args.at c.piece_end-end.result c.judge_piece-number.result c.judge_piece-number.ensures c.piece_end-end.ensures in record { passed = stays-passed c.args.format c.args.tape.now c.args.at c.piece_end-end.ensures q c.if-number-eq0.true c.args.n; tape = stays-tape c.args.format c.args.tape.now c.args.at c.piece_end-end.ensures q c.if-number-eq0.true; firsts = stays-list c.args.format c.args.tape.now c.args.at c.piece_end-end.ensures q c.if-number-eq0.true _ _; sizes = stays-list c.args.format c.args.tape.now c.args.at c.piece_end-end.ensures q c.if-number-eq0.true _ _; numbers = stays-list c.args.format c.args.tape.now c.args.at c.piece_end-end.ensures q c.if-number-eq0.true _ _ }
+returns-then-number-eq0 c =
+    let q = number_is c.args.format c.args.tape.now c.args.at c.piece_end-end.result c.judge_piece-number.result c.judge_piece-number.ensures c.piece_end-end.ensures in
+    record {
+      passed = stays-passed c.args.format c.args.tape.now c.args.at c.piece_end-end.ensures q c.if-number-eq0.true c.args.n;
+      tape = stays-tape c.args.format c.args.tape.now c.args.at c.piece_end-end.ensures q c.if-number-eq0.true;
+      firsts = stays-list c.args.format c.args.tape.now c.args.at c.piece_end-end.ensures q c.if-number-eq0.true _ _;
+      sizes = stays-list c.args.format c.args.tape.now c.args.at c.piece_end-end.ensures q c.if-number-eq0.true _ _;
+      numbers = stays-list c.args.format c.args.tape.now c.args.at c.piece_end-end.ensures q c.if-number-eq0.true _ _;
+    }
 
 pub bounds-firsts-n : goal.bounds-firsts-n
 bounds-firsts-n c = lost-room c.args.format c.args.tape.now c.args.at c.piece_end-end.ensures (number_is c.args.format c.args.tape.now c.args.at c.piece_end-end.result c.judge_piece-number.result c.judge_piece-number.ensures c.piece_end-end.ensures) c.if-number-eq0.false _ _ c.requires.at_in_bounds_2.0
@@ -31,4 +39,12 @@ pub bounds-numbers-n : goal.bounds-numbers-n
 bounds-numbers-n c = lost-room c.args.format c.args.tape.now c.args.at c.piece_end-end.ensures (number_is c.args.format c.args.tape.now c.args.at c.piece_end-end.result c.judge_piece-number.result c.judge_piece-number.ensures c.piece_end-end.ensures) c.if-number-eq0.false _ _ c.requires.at_in_bounds_2.2
 
 pub returns : goal.returns
-returns c = let q = number_is c.args.format c.args.tape.now c.args.at c.piece_end-end.result c.judge_piece-number.result c.judge_piece-number.ensures c.piece_end-end.ensures in record { passed = lost-passed c.args.format c.args.tape.now c.args.at c.piece_end-end.ensures q c.if-number-eq0.false c.args.n; tape = lost-tape c.args.format c.args.tape.now c.args.at c.piece_end-end.ensures q c.if-number-eq0.false _ c.rub_out.ensures; firsts = lost-first c.args.format c.args.tape.now c.args.at c.piece_end-end.ensures q c.if-number-eq0.false _ _; sizes = lost-size c.args.format c.args.tape.now c.args.at c.piece_end-end.ensures q c.if-number-eq0.false _ _; numbers = lost-number c.args.format c.args.tape.now c.args.at c.piece_end-end.ensures q c.if-number-eq0.false _ _ }
+returns c =
+    let q = number_is c.args.format c.args.tape.now c.args.at c.piece_end-end.result c.judge_piece-number.result c.judge_piece-number.ensures c.piece_end-end.ensures in
+    record {
+      passed = lost-passed c.args.format c.args.tape.now c.args.at c.piece_end-end.ensures q c.if-number-eq0.false c.args.n;
+      tape = lost-tape c.args.format c.args.tape.now c.args.at c.piece_end-end.ensures q c.if-number-eq0.false _ c.rub_out.ensures;
+      firsts = lost-first c.args.format c.args.tape.now c.args.at c.piece_end-end.ensures q c.if-number-eq0.false _ _;
+      sizes = lost-size c.args.format c.args.tape.now c.args.at c.piece_end-end.ensures q c.if-number-eq0.false _ _;
+      numbers = lost-number c.args.format c.args.tape.now c.args.at c.piece_end-end.ensures q c.if-number-eq0.false _ _;
+    }

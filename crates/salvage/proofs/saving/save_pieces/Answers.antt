@@ -27,13 +27,26 @@ loop-at-init c =
     (saves-start a.format a.tape.now a.firsts.now a.sizes.now a.numbers.now)
 
 pub save_piece-passed-requires : goal.save_piece-passed-requires
-save_piece-passed-requires c = let l = c.loop-at.invariant in let r = saves-room c.args.format c.args.tape.now c.args.firsts.now c.args.sizes.now c.args.numbers.now (head-only c.args.format c.args.tape.now c.requires.tape_len_bound.2) c.requires.tape_len_bound.0 l c.loop-at-test.true in record { facts = c.requires.facts; at_in_bounds = l.within; at_in_bounds_2 = (omega (arith, r, c.requires.tape_in_bounds.0, l.first.same), omega (arith, r, c.requires.tape_in_bounds.1, l.size.same), omega (arith, r, c.requires.tape_in_bounds.2, l.number.same)) }
+save_piece-passed-requires c =
+    let l = c.loop-at.invariant in
+    let r = saves-room c.args.format c.args.tape.now c.args.firsts.now c.args.sizes.now c.args.numbers.now (head-only c.args.format c.args.tape.now c.requires.tape_len_bound.2) c.requires.tape_len_bound.0 l c.loop-at-test.true in
+    record {
+      facts = c.requires.facts;
+      at_in_bounds = l.within;
+      at_in_bounds_2 = (omega (arith, r, c.requires.tape_in_bounds.0, l.first.same), omega (arith, r, c.requires.tape_in_bounds.1, l.size.same), omega (arith, r, c.requires.tape_in_bounds.2, l.number.same));
+    }
 
 pub loop-at-preserved : goal.loop-at-preserved
-loop-at-preserved c = let e = c.save_piece-passed.ensures in saves-on c.args.format c.args.tape.now c.args.firsts.now c.args.sizes.now c.args.numbers.now (head-only c.args.format c.args.tape.now c.requires.tape_len_bound.2) c.requires.tape_len_bound.0 c.loop-at.invariant c.requires.tape_in_bounds c.loop-at-test.true e.tape _ _ _ _ e.passed e.firsts e.sizes e.numbers
+loop-at-preserved c =
+    let e = c.save_piece-passed.ensures in
+    saves-on c.args.format c.args.tape.now c.args.firsts.now c.args.sizes.now c.args.numbers.now (head-only c.args.format c.args.tape.now c.requires.tape_len_bound.2) c.requires.tape_len_bound.0 c.loop-at.invariant c.requires.tape_in_bounds c.loop-at-test.true e.tape _ _ _ _ e.passed e.firsts e.sizes e.numbers
 
 pub loop-at-smaller : goal.loop-at-smaller
-loop-at-smaller c = let e = c.save_piece-passed.ensures in let w = ap (λ (p : Passed). p.at) e.passed in let k = saves-on c.args.format c.args.tape.now c.args.firsts.now c.args.sizes.now c.args.numbers.now (head-only c.args.format c.args.tape.now c.requires.tape_len_bound.2) c.requires.tape_len_bound.0 c.loop-at.invariant c.requires.tape_in_bounds c.loop-at-test.true e.tape _ _ _ _ e.passed e.firsts e.sizes e.numbers in omega (arith, w, k.long, k.within, c.loop-at.invariant.long, (next-piece c.loop-at.tape c.loop-at.at c.loop-at-test.true).some)
+loop-at-smaller c =
+    let e = c.save_piece-passed.ensures in
+    let w = ap (λ (p : Passed). p.at) e.passed in
+    let k = saves-on c.args.format c.args.tape.now c.args.firsts.now c.args.sizes.now c.args.numbers.now (head-only c.args.format c.args.tape.now c.requires.tape_len_bound.2) c.requires.tape_len_bound.0 c.loop-at.invariant c.requires.tape_in_bounds c.loop-at-test.true e.tape _ _ _ _ e.passed e.firsts e.sizes e.numbers in
+    omega (arith, w, k.long, k.within, c.loop-at.invariant.long, (next-piece c.loop-at.tape c.loop-at.at c.loop-at-test.true).some)
 
 pub shape_of-tape : goal.shape_of-tape
 shape_of-tape c = c.loop-at.invariant.long
@@ -48,4 +61,6 @@ pub shape_of-numbers : goal.shape_of-numbers
 shape_of-numbers c = c.loop-at.invariant.number.same
 
 pub returns : goal.returns
-returns c = let r = saves-end c.args.format c.args.tape.now c.args.firsts.now c.args.sizes.now c.args.numbers.now (head-only c.args.format c.args.tape.now c.requires.tape_len_bound.2) c.requires.tape_len_bound.0 c.loop-at.invariant c.loop-at-test.false in record { tape = r.0; firsts = r.1; sizes = r.2; numbers = r.3 }
+returns c =
+    let r = saves-end c.args.format c.args.tape.now c.args.firsts.now c.args.sizes.now c.args.numbers.now (head-only c.args.format c.args.tape.now c.requires.tape_len_bound.2) c.requires.tape_len_bound.0 c.loop-at.invariant c.loop-at-test.false in
+    record { tape = r.0; firsts = r.1; sizes = r.2; numbers = r.3 }

@@ -1,0 +1,14 @@
+-- `index::building::fill_index`: a loop over steps that lays the first row and the number of each block into the arrays.
+use lib.ListN.{length}
+use Rattle.rows.specs.Kept.{kept_at}
+use Rattle.steps.specs.Front.{spot_told}
+use Rattle.reading.proofs.StepLaws.{effort}
+use Rattle.index.proofs.Filling.{Fills}
+use Rattle.index.proofs.building.fill_index.Given as goal
+
+abbrev pub invariant-loop-begun : goal.invariant-loop-begun
+invariant-loop-begun l =
+    Fills (length l.tape) l.format l.first (kept_at l.tape l.first) l.initial.firsts l.initial.numbers (spot_told l.tape l.cursor) l.firsts l.numbers l.from l.number l.n
+
+abbrev pub decreases-loop-begun : goal.decreases-loop-begun
+decreases-loop-begun l = effort (length l.tape) l.from l.cursor.stage l.cursor.item

@@ -1,0 +1,14 @@
+-- `index::finding::own_entry`: by what stages 1 to 3 of the own rows answered.
+use mathlib.Core.Path.{◌∙◌, sym, ap}
+use native.Mathlib.Omega.{arith}
+use borrow.Author.Rules.{part_to_end}
+use Rattle.rows.specs.Stages.{judged}
+use Rattle.index.proofs.OwnPart.{at_end, refused-within}
+use Rattle.index.proofs.finding.own_entry.Goals as goal
+
+pub overflow_add-first : goal.overflow_add-first
+overflow_add-first c =
+    let a = c.args in
+    let t = a.tape.now in
+    let refused = sym (c.in-Refused.ensures ∙ ap judged (part_to_end t _ ∙ (at_end t _ _ c.at_most-from.ensures).2)) in
+    omega (arith, refused-within t a.first _ _ refused)
