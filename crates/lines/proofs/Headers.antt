@@ -1,5 +1,5 @@
 -- Laws of the listing's input: two texts compared, how far the header is looked for, and the rows' limit.
-use Prim.Native.Nat.{ℕ, suc, ◌+◌, ◌≤◌, ◌<◌, min}
+use Prim.Native.Nat.{ℕ, suc, ◌+◌, ◌-◌, ◌≤◌, ◌<◌, min}
 use mathlib.Core.Path.{◌≡◌, refl, sym, ap, ◌∙◌}
 use mathlib.Core.Bool.{Bool, true, false, ◌&&◌}
 use mathlib.Core.List.{List, [], ◌∷◌}
@@ -8,11 +8,13 @@ use lib.Dec.{eqb, ltb}
 use lib.ListN.{length, get_or, take, drop, drop_of_length-le, length-take, take-append-drop}
 use lib.Seq.{drop-cons, take-append_seam}
 use borrow.Author.Tests.{eq-eqb, ne_eqb, le-leb, lt-leb, lt-ltb, le-ltb}
+use Rattle.std.specs.Prelude.{slice_range}
 use Rattle.rows.specs.Answer.{Answer, taken, refused, void, ◌>>=◌, ◌>>◌}
 use Rattle.shorthand.specs.declared.Format.{Format}
 use Rattle.profile.specs.Answers.{agreed}
 use Rattle.reading.specs.Answers.{read_under, size_of}
-use Rattle.lines.specs.Listing.{same, edition_of, index_of, header_end, no_header, header_of, most, listed_under}
+use Rattle.text.specs.Finding.{index_of}
+use Rattle.lines.specs.Listing.{same, edition_of, header_end, no_header, header_of, most, listed_under}
 
 -- ---- two texts compared, byte for byte
 
@@ -62,9 +64,14 @@ module _ (e : ℕ) (s p rows : List ℕ) where
       cut (taken f) = refl
       cut (refused n k) = refl
 
--- ---- the header, by what the kit's search found
+-- ---- the header, by what the searches found
 
-module _ (input : List ℕ) (most lf : ℕ) (m : most ≡ min 200 (length input)) (h : lf ≡ index_of 10 (take most input)) where
+module _ (input : List ℕ) where
+  -- a search from the front on
+  searched : (b to : ℕ) {n : ℕ} → n ≡ 0 + index_of b (slice_range input 0 to) → index_of b (take to input) ≡ n
+  searched b to h = let e : to - 0 ≡ to = omega arith in omega (arith, rw e at h)
+
+module _ (input : List ℕ) (most lf : ℕ) (m : most ≡ min 200 (length input)) (h : lf ≡ 0 + index_of 10 (slice_range input 0 most)) where
   long : most ≡ length (take 200 input)
   long = m ∙ sym (length-take 200 input)
 
@@ -72,15 +79,15 @@ module _ (input : List ℕ) (most lf : ℕ) (m : most ≡ min 200 (length input)
   front = rw long (ap (take (length (take 200 input))) (sym (take-append-drop 200 input)) ∙ take-append_seam (take 200 input) (drop 200 input))
 
   end : header_end input ≡ lf
-  end = ap (index_of 10) (sym front) ∙ omega (arith, h)
+  end = ap (index_of 10) (sym front) ∙ searched input 10 most h
 
   pub no_lf : most ≤ lf → header_of input ≡ no_header
   unfolding header_of
   no_lf l = rw (end, le-ltb lf (length (take 200 input)) (omega (arith, long, l)))
 
-  module _ (space : ℕ) (b : lf < most) (g : space ≡ index_of 32 (take lf input)) where
+  module _ (space : ℕ) (b : lf < most) (g : space ≡ 0 + index_of 32 (slice_range input 0 lf)) where
     gap : index_of 32 (take lf input) ≡ space
-    gap = omega (arith, g)
+    gap = searched input 32 lf g
 
     here : ltb lf (length (take 200 input)) ≡ true
     here = lt-ltb lf (length (take 200 input)) (omega (arith, long, b))

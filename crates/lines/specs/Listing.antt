@@ -1,6 +1,5 @@
 -- What the listing program writes for a profile, its argument, and its whole input (documents 01, "The listing program", and 02, 2/12).
 use Rattle.std.specs.Prelude.{ℕ, ◌+◌, ◌-◌, Bool, true, false, ◌&&◌, cond, List, [], ◌∷◌, ◌++◌, eqb, ltb, leb, length, take, drop}
-use Rattle.std.specs.List.{position_or_len}
 use Rattle.rows.specs.Answer.{Answer, taken, refused, value_or, ◌>>=◌}
 use Rattle.shorthand.specs.declared.Format.{Format}
 use Rattle.shorthand.specs.Layout.{empty_format}
@@ -8,6 +7,7 @@ use Rattle.profile.specs.Answers.{agreed}
 use Rattle.reading.specs.Parse.{Entry}
 use Rattle.reading.specs.Answers.{read}
 use Rattle.text.specs.Text.{text}
+use Rattle.text.specs.Finding.{index_of}
 use Rattle.lines.specs.declared.Header.{Header}
 use Rattle.lines.specs.Lines.{block_line, count_line, refusal_line}
 
@@ -22,10 +22,6 @@ same (x ∷ xs) (y ∷ ys) = eqb x y && same xs ys
 -- the edition by its text; any other is none, and 0
 abbrev pub edition_of : List ℕ → ℕ
 edition_of xs = cond (same xs (text "1057")) 1057 (cond (same xs (text "2539")) 2539 0)
-
--- where the byte b first stands, or their length where it stands nowhere
-abbrev pub index_of : ℕ → List ℕ → ℕ
-index_of b xs = position_or_len (λ x. eqb x b) xs
 
 -- where the header's LF stands, among the first 200 bytes
 abbrev pub header_end : List ℕ → ℕ
