@@ -3,7 +3,7 @@ use Prim.Native.Nat.{ℕ, ◌^◌, ◌≤◌, ◌<◌}
 use mathlib.Core.Path.{◌≡◌, refl, ap, ◌∙◌}
 use mathlib.Core.Bool.{Bool, true, false, ◌&&◌, not, cond}
 use mathlib.Core.List.{[], ◌∷◌}
-use mathlib.Core.Logic.{◌⊎◌, ⊎_elim}
+use mathlib.Core.Logic.{◌⊎◌, inl, inr, ⊎_elim}
 use native.Mathlib.Omega.{arith}
 use borrow.Author.Tests.{ltb-true, lt-ltb, le-ltb}
 use denote.Enum.Declared.{tag_of}
@@ -37,6 +37,22 @@ data-measured i k v e = rw (data-length i k v e, e)
 
 abbrev tag : Value → ℕ
 tag v = tag_of the_type v
+
+-- a value that is not of a kind is of one of the other two
+pub no_number : (v : Value) → ((n : ℕ) → v ≡ Number n → ⊥) → (tag v ≡ 1) ⊎ (tag v ≡ 2)
+no_number (Number v) h = absurd (h v refl)
+no_number (Value.Dimension z) h = inl refl
+no_number (Value.Speed v) h = inr refl
+
+pub no_speed : (v : Value) → ((s : Speed) → v ≡ Value.Speed s → ⊥) → (tag v ≡ 0) ⊎ (tag v ≡ 1)
+no_speed (Number v) h = inl refl
+no_speed (Value.Dimension z) h = inr refl
+no_speed (Value.Speed v) h = absurd (h v refl)
+
+pub no_dimension : (v : Value) → ((z : ℤ) → v ≡ Value.Dimension z → ⊥) → (tag v ≡ 0) ⊎ (tag v ≡ 2)
+no_dimension (Number v) h = inl refl
+no_dimension (Value.Dimension z) h = absurd (h z refl)
+no_dimension (Value.Speed v) h = inr refl
 
 module _ (i : ℕ) where
   pub plain_other : (n : ℕ) (v : Value) → (tag v ≡ 1) ⊎ (tag v ≡ 2) → value_fits i (Plain n) v ≡ refused 16 i

@@ -1,0 +1,14 @@
+-- `punching::line::put_start`: the puts one behind the other; without a number "/" alone, or nothing.
+use Prim.Native.Nat.{◌+◌}
+use mathlib.Core.Path.{ap, ◌∙◌}
+use mathlib.Core.Bool.{cond}
+use native.Mathlib.Omega.{arith}
+use lib.ListN.{length-append}
+use Rattle.reading.specs.Relation.{skip_rows, sequence_rows}
+use Rattle.punching.proofs.Measures.{sequence-length}
+use Rattle.punching.proofs.line.put_start.Goals as goal
+
+pub put_digits-requires : goal.put_digits-requires
+put_digits-requires c =
+    let a = c.args in
+    (omega (arith, c.put_either-next.ensures.end, c.put_either-next.auto.line, c.put_skip-at.ensures.end, c.put_skip-at.auto.line, length-append (skip_rows a.start.skip) (sequence_rows a.digits a.start), sequence-length a.digits a.start ∙ ap (λ x. cond x (1 + a.digits) 0) c.if-start.true, c.requires.0), c.requires.1 c.if-start.true)

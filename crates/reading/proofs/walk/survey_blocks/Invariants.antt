@@ -1,0 +1,14 @@
+-- `reading::walk::survey_blocks`: a loop over steps that counts the blocks and holds where the rows of one of them stand.
+use lib.ListN.{length}
+use Rattle.words.specs.Front.{rows_at}
+use Rattle.steps.specs.Front.{spot_told}
+use Rattle.reading.proofs.StepLaws.{effort}
+use Rattle.reading.proofs.Counting.{Counts}
+use Rattle.reading.proofs.walk.survey_blocks.Given as goal
+
+abbrev pub invariant-loop-lf : goal.invariant-loop-lf
+invariant-loop-lf l =
+    Counts l.n (length l.tape) l.format l.first (rows_at l.tape l.initial.cursor.front) (spot_told l.tape l.cursor) l.count l.part l.last
+
+abbrev pub decreases-loop-lf : goal.decreases-loop-lf
+decreases-loop-lf l = effort (length l.tape) l.last.to l.cursor.stage l.cursor.item
