@@ -1,8 +1,7 @@
 -- `images::sites::has_blanks`: as many rows are wanted still as the rows from the next on would have to hold.
 use mathlib.Core.Bool.{not}
 use mathlib.Core.Path.{◌∙◌, sym, ap}
-use native.Mathlib.Omega.{arith}
-use borrow.Author.Tests.{le-leb, eq-eqb, ne_eqb}
+use borrow.Author.Tests.{eq-eqb, ne_eqb}
 use lib.ListN.{get_or}
 use Rattle.images.proofs.BlankRows.{no-blank, nul-blank, del-blank, blanks-end, blanks-cut, blanks-more}
 use Rattle.images.proofs.sites.has_blanks.Goals as goal
@@ -28,6 +27,3 @@ loop-left-preserved c =
       | else-row-ne-NUL-via-then-row-ne-NUL+else-row w ↦ del-blank row (ap not (eq-eqb row 255 w.if-row.false))
       | else-row-ne-NUL-via-else-row-ne-NUL w ↦ nul-blank row w.if-row-ne-NUL.false
     ])
-
-pub returns : goal.returns
-returns c = sym (c.loop-left.invariant ∙ le-leb c.loop-left.left _ (omega arith))

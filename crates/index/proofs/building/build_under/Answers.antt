@@ -1,10 +1,10 @@
 -- `index::building::build_under`: by what the survey counted, and whether there is room for as many entries.
 use mathlib.Core.Path.{◌≡◌, ◌∙◌, sym, ap}
 use lib.ListN.{length}
-use Rattle.rows.specs.Answer.{taken, told}
+use Rattle.rows.specs.Answer.{taken}
 use Rattle.reading.specs.Answers.{read, size_of, count_told}
 use Rattle.index.specs.Index.{index_room}
-use Rattle.index.proofs.Indexing.{not-read, no_room, lays_all, lays-none, fillable}
+use Rattle.index.proofs.Indexing.{not-read, no_room, lays_all, lays-none}
 use Rattle.index.proofs.building.build_under.Goals as goal
 use Rattle.index.proofs.building.build_under.Goals.{In-Blocks, In_default-judge_room}
 

@@ -1,7 +1,6 @@
 -- `index::finding::find_entry`: by each test of the tape and the index.
 use mathlib.Core.Path.{◌∙◌, sym, ap}
 use lib.ListN.{get_or}
-use lib.Seq.{length-take-le}
 use Rattle.reading.specs.Survey.{entry_answer}
 use Rattle.index.specs.Finding.{own_entry}
 use Rattle.index.proofs.EntryTests.{entry-long, entry_past, entry-own}
