@@ -1,5 +1,5 @@
 -- Document 01's listing, the edges of its header, and listings under a profile, computed by the definitions, as one statement.
-use Prim.Native.Nat.{ℕ, ◌+◌}
+use Prim.Native.Nat.{ℕ}
 use Prim.Native.String.{String}
 use mathlib.Core.Path.{◌≡◌, refl}
 use mathlib.Core.List.{List, [], ◌∷◌, ◌++◌, map}

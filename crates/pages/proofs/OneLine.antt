@@ -1,5 +1,5 @@
 -- One line more on a page: the LF behind a text, and whether the line fits.
-use mathlib.Core.Path.{◌≡◌, refl, sym, ap, ◌∙◌}
+use mathlib.Core.Path.{◌≡◌, refl, sym, ◌∙◌}
 use mathlib.Core.Bool.{Bool, true, false, cond}
 use mathlib.Core.List.{List, [], ◌∷◌, ◌++◌}
 use Prim.Native.Nat.{ℕ, suc, ◌+◌, ◌-◌, ◌≤◌, ◌<◌}
@@ -10,7 +10,6 @@ use lib.Seq.{sets, length-sets, take-suc-set, length-take-le}
 use borrow.Author.Tests.{le-leb, lt-leb}
 use Rattle.text.specs.Line.{Put}
 use Rattle.text.proofs.Puts.{put-length}
-use Rattle.pages.specs.declared.Added.{Added}
 use Rattle.pages.specs.declared.Added.TheVariants.{Listed}
 use Rattle.pages.specs.declared.Sheet.{Sheet}
 use Rattle.pages.specs.Adding.{fits_in, line_after}

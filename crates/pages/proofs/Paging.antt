@@ -5,11 +5,11 @@ use mathlib.Core.List.{List, [], ◌∷◌, ◌++◌, append_assoc, append-nil}
 use Prim.Native.Nat.{ℕ, zero, suc, ◌+◌, ◌-◌, ◌*◌, ◌≤◌, ◌<◌, zero-le}
 use native.Mathlib.Nat.{le_refl}
 use native.Mathlib.Omega.{arith}
-use lib.Dec.{leb, eqb}
+use lib.Dec.{leb}
 use lib.ListN.{length, take, drop, length-append, replicate}
 use lib.Seq.{sets, sets-eq, take_at, take-append_seam, length-take-le}
 use borrow.Author.Tests.{le-leb, leb-true, leb-false, ne_eqb}
-use Rattle.rows.specs.Answer.{Answer, taken, refused, refusal, ◌>>=◌}
+use Rattle.rows.specs.Answer.{Answer, taken, refused}
 use Rattle.rows.proofs.OneAnswer.{Case, takes, refuses, one}
 use Rattle.rows.specs.Kept.{KeptRow}
 use Rattle.shorthand.specs.declared.Format.{Format}
@@ -29,7 +29,6 @@ use Rattle.punching.specs.Answers.{after}
 use Rattle.text.specs.Line.{Put}
 use Rattle.text.specs.Text.{word_text, words_text, start_text}
 use Rattle.text.proofs.Puts.{put-none, put-more, put_as, put-length}
-use Rattle.pages.specs.declared.Added.{Added}
 use Rattle.pages.specs.declared.Added.TheVariants.{Listed, Full}
 use Rattle.pages.specs.declared.Page.{Page}
 use Rattle.pages.specs.declared.Page.TheVariants.{Lines}
