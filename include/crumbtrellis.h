@@ -1,7 +1,7 @@
 /*
  * Crumbtrellis from C: block counts, coded speeds and the tape head, on numbers and bytes.
  *
- * Link with libcrumbtrellis.a, which `rt staticlib crumbtrellis` writes to target/staticlib/ (x86-64 Linux).
+ * Link with libcrumbtrellis.a, which `rt lib` in crates/crumbtrellis writes to crates/crumbtrellis/out/ (x86-64 Linux).
  *
  * Every function returns 0 for success, or the number of the refusal. For every input there is one answer:
  *   success:  returns 0, *place is 0, *value is the value, or *kind and *units are the speed;
