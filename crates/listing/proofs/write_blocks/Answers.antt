@@ -1,5 +1,5 @@
 -- `listing::write_blocks` is safe: the tape that was counted is accepted, and its blocks stand behind its head.
-use Rattle.std.proofs.Common.{◌≡◌, sym, ap, ◌∙◌, arith}
+use Rattle.std.proofs.Common.{sym, ap, ◌∙◌, arith}
 use Rattle.rows.specs.Answer.{told}
 use Rattle.reading.specs.Answers.{count_told}
 use Rattle.reading.proofs.BlockWalk.{enters-at}

@@ -1,2 +1,0 @@
--- The room of the indexes.
-pub mod Rooms
