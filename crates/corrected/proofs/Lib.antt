@@ -1,0 +1,2 @@
+-- The room of the indexes.
+pub mod Rooms
