@@ -1,5 +1,4 @@
 -- `slides::moves::choose`: a loop over the words of a block.
-use mathlib.Core.Bool.{true}
 use mathlib.Core.Path.{◌≡◌}
 use lib.ListN.{length}
 use borrow.Author.Rules.{rules}
@@ -14,5 +13,4 @@ loop-i-preserved c =
 pub returns : goal.returns
 returns c =
     let long : length c.args.block.words ≡ 22 = search rules in
-    let chosen : c.args.chooses ≡ true = search rules in
-    rw chosen (choose-end _ _ long c.requires c.loop-i.invariant c.loop-i-test.false)
+    rw c.if-not-chooses.false (choose-end _ _ long c.requires c.loop-i.invariant c.loop-i-test.false)
