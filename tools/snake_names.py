@@ -1,7 +1,7 @@
 #!/usr/bin/env python3
 """Spells the repository's own names of specs/ and proofs/ in snake case: definitions and lemmas that were in camel case, and fields and constructors that had a dash.
 
-usage: python3 tools/snake_names.py            at the top of the repository, once, after /opt/rattle/port/port.py
+usage: python3 tools/snake_names.py            at the top of the repository, once, after the kit's port.py
 Functions of src/, types, modules, strings, inputs and outputs keep their names.
 """
 

@@ -1,8 +1,9 @@
 // What the programs that list blocks share: their argument, their input, the line of a block, and the last line.
 #![tactic(auto)]
 
-ghost use Rattle.std.specs.Prelude.{◌≡◌, ◌+◌, ◌≤◌, min, length, take};
+ghost use Rattle.std.specs.Prelude.{◌≡◌, ◌+◌, ◌≤◌, min, length};
 ghost use Rattle.std.specs.Io.{ReadsAtMost};
+ghost use Rattle.io.specs.Counts.{IsPrefixLen};
 ghost use Rattle.text.specs.Line.{Put};
 ghost use Rattle.lines.specs.Lines.{block_line};
 
@@ -32,7 +33,7 @@ pub fn output_space() -> [u8; 65536]
 
 // How many bytes of the buffer are the profile: none without an argument, and all where the argument is longer, since then its first bytes fill it.
 pub fn read_profile(rt: &impl Env, buffer: &mut [u8]) -> usize
-    ensures { (result ≤ length buffer.new) × (result ≡ length (take result buffer.new)) }
+    ensures { IsPrefixLen result buffer.new }
 {
     match rt.arg(1, buffer) {
         Ok(n) => n,

@@ -2,7 +2,7 @@
 #![tactic(auto)]
 
 ghost use Rattle.std.specs.Prelude.{◌≡◌, cond, [], ◌∷◌, ◌+◌, ◌≤◌, ◌<◌, max, length};
-ghost use Rattle.text.specs.Digits.{last_digits, IsDigitCount};
+ghost use Rattle.io.specs.Digits.{last_digits, IsDigitCount};
 ghost use Rattle.words.specs.declared.Value.TheVariants.{Dimension};
 ghost use Rattle.text.specs.Text.{decimal, full, speed_text, value_text, word_text, sequence_text, start_text};
 ghost use Rattle.text.specs.Line.{Put};
@@ -37,7 +37,7 @@ pub fn put_all(line: &mut [u8], start: usize, text: &[u8]) -> usize
 
 // How many digits a number has in plain decimal.
 fn count_digits(v: u64) -> usize
-    ensures { IsDigitCount v result }
+    ensures { IsDigitCount 10 1 v result }
 {
     let mut k = 1;
     let mut rest = v / 10;
@@ -51,7 +51,7 @@ fn count_digits(v: u64) -> usize
 // The last k digits of a number: the remainders by ten give them from the last to the first.
 fn put_digits(line: &mut [u8], at: usize, k: usize, v: u64) -> usize
     requires { at + k ≤ length line.old }
-    ensures { Put line.old at (last_digits k v) line.new result }
+    ensures { Put line.old at (last_digits 10 k v) line.new result }
 {
     let mut rest = v;
     let mut i = k;
