@@ -6,7 +6,7 @@ use native.Mathlib.Omega.{arith}
 use lib.ListN.{length}
 use Rattle.rows.specs.Answer.{Answer, taken, refused, ◌>>=◌, ◌>>◌}
 use Rattle.shorthand.specs.declared.Format.{Format}
-use Rattle.reading.specs.Parse.{Entry}
+use Rattle.reading.specs.declared.Entry.{Entry}
 use Rattle.reading.specs.Answers.{read, size_of}
 use Rattle.index.specs.Index.{index_room, indexed_for}
 use Rattle.index.proofs.Indexing.{room-both}

@@ -6,35 +6,35 @@
 // The lines are made by `printing`, the entries are found by `corrections`; the proofs of the program's own functions are of safety alone.
 #![tactic(auto)]
 
-ghost use Rattle.std.specs.Prelude.{◌≡◌, ◌≤◌, length, IfOk};
-ghost use Rattle.shorthand.specs.Facts.{Facts};
+ghost use Rattle.std.specs.Prelude.{◌≡◌, ◌≤◌, length, IfSome, IfOk};
 
 use corrections::listed::{indexed_entry, is_new};
-use corrections::{Corrected, Named, Tape};
+use corrections::{Named, Tape};
 use index::building::build_under;
 use index::finding::find_entry;
+use lines::Said;
 use lines::input::{count_listed, read_header};
-use printing::{argument_space, output_space, put_block, read_input, read_profile, write_last};
-use reading::Counted;
-use rows::{Checked, Refusal};
-use shorthand::Format;
+use printing::{ARGUMENT, Output, put_block, read_input, read_profile, space, write_last};
+use profile::Terms;
+use rows::Cause;
+use shorthand::Usable;
 use std::io;
 use std::io::Write;
 use text::finding::find_byte;
 
-// A count of rows, read from the header.
-#[derive(Clone, Copy)]
-enum Said {
-    Rows(usize),
-    Nothing,
-}
-
-// Whether the header's text has a shorthand and the counts of the rows behind it; if so, where the shorthand ends, and how many rows are the correction's.
+// Where the shorthand of the header's text ends, and how many of the rows behind the header are the correction's.
 #[derive(Clone, Copy)]
 struct Sizes {
-    given: bool,
     shorthand: usize,
     correction: usize,
+}
+
+// A tape, and the first rows and numbers of its blocks.
+#[derive(Clone, Copy)]
+struct Indexed<'a> {
+    tape: &'a [u8],
+    firsts: &'a [usize],
+    numbers: &'a [u64],
 }
 
 // The most blocks of 60,000 rows: the shortest block is a letter, a digit and LF.
@@ -44,208 +44,124 @@ const BLOCKS: usize = 20000;
 const TOO_MANY: usize = 120001;
 
 // The 200 bytes that a header may have, twice 60,000 rows, and one byte more, by which too many rows are seen.
-fn input_space() -> [u8; 120201]
-    ensures { 120201 ≡ length result }
-{
-    [0; 120201]
-}
+const INPUT: usize = 120201;
 
 // A count in plain decimal.
-fn read_count(text: &[u8]) -> Said {
-    if text.len() == 0 {
-        return Said::Nothing;
+fn read_count(text: &[u8]) -> Option<usize> {
+    if text.is_empty() {
+        return None;
     }
     let mut n: usize = 0;
-    let mut i: usize = 0;
-    while i < text.len() {
-        let digit = text[i];
-        if digit < 48 {
-            return Said::Nothing;
+    for c in text {
+        if !c.is_ascii_digit() || TOO_MANY < n {
+            return None;
         }
-        if 57 < digit {
-            return Said::Nothing;
-        }
-        if TOO_MANY < n {
-            return Said::Nothing;
-        }
-        n = 10 * n + (digit - 48) as usize;
-        i += 1;
+        n = 10 * n + (*c - b'0') as usize;
     }
-    Said::Rows(n)
+    Some(n)
 }
 
-fn no_sizes() -> Sizes
-    ensures { (result.shorthand ≡ 0) × (result.correction ≡ 0) }
+// The shorthand and the two counts behind it, with a space before each, where together they are so many rows.
+fn split_text(text: &[u8], rows: usize) -> Option<Sizes>
+    ensures { IfSome result (λ s. (s.shorthand ≤ length text.now) × (s.correction ≤ rows)) }
 {
-    Sizes {
-        given: false,
-        shorthand: 0,
-        correction: 0,
-    }
-}
-
-// The shorthand and the two counts behind it, with a space before each; together they are so many rows.
-fn split_text(text: &[u8], rows: usize) -> Sizes
-    ensures { (result.shorthand ≤ length text.now) × (result.correction ≤ rows) }
-{
-    let first = find_byte(text, 0, text.len(), 32);
+    let first = find_byte(text, 0, text.len(), b' ');
     if text.len() <= first {
-        return no_sizes();
+        return None;
     }
-    let second = find_byte(text, first + 1, text.len(), 32);
+    let second = find_byte(text, first + 1, text.len(), b' ');
     if text.len() <= second {
-        return no_sizes();
+        return None;
     }
-    let Said::Rows(correction) = read_count(&text[first + 1..second]) else {
-        return no_sizes();
-    };
-    let Said::Rows(master) = read_count(&text[second + 1..]) else {
-        return no_sizes();
-    };
-    if rows < correction {
-        return no_sizes();
+    let correction = read_count(&text[first + 1..second])?;
+    let master = read_count(&text[second + 1..])?;
+    if rows < correction || rows - correction != master {
+        return None;
     }
-    Sizes {
-        given: rows - correction == master,
+    Some(Sizes {
         shorthand: first,
         correction,
-    }
+    })
 }
 
 // The line of block n of a tape, by its index.
 fn write_block<W: Write>(
     writer: &mut W,
-    tape: &[u8],
-    format: Format,
-    firsts: &[usize],
+    from: &Indexed<'_>,
+    usable: Usable,
     n: usize,
-    out: &mut [u8],
-) -> io::Result<()>
-    requires facts { Facts format }
-    requires in_bounds { 786 ≤ length out.old }
-{
-    let entry = find_entry(tape, format, firsts, n);
-    let outcome = entry.outcome;
-    let block = entry.block;
-    let Checked::Clean = outcome else {
+    out: &mut Output,
+) -> io::Result<()> {
+    let Ok(entry) = find_entry(from.tape, usable, from.firsts, n) else {
         return Ok(());
     };
-    let size = put_block(out, format.sequence, block);
+    let size = put_block(&mut out[..], usable.format.sequence, entry.block);
     writer.write_all(&out[..size])
 }
 
-// The line of an entry, by the indexes of the two tapes.
+// The line of an entry.
 fn write_named<W: Write>(
     writer: &mut W,
-    correction: &[u8],
-    master: &[u8],
-    format: Format,
-    given: &[usize],
-    kept: &[usize],
+    correction: &Indexed<'_>,
+    master: &Indexed<'_>,
+    usable: Usable,
     named: Named,
-    out: &mut [u8],
-) -> io::Result<()>
-    requires facts { Facts format }
-    requires in_bounds { 786 ≤ length out.old }
-{
-    let tape = named.tape;
-    match tape {
-        Tape::Correction => write_block(writer, correction, format, given, named.block, out),
-        Tape::Master => write_block(writer, master, format, kept, named.block, out),
+    out: &mut Output,
+) -> io::Result<()> {
+    match named.tape {
+        Tape::Correction => write_block(writer, correction, usable, named.block, out),
+        Tape::Master => write_block(writer, master, usable, named.block, out),
     }
 }
 
-// The lines of the entries in the master's order, by the indexes of the two tapes: the first rows of both, and the numbers of both.
+// The lines of the entries in the master's order.
 fn write_masters<W: Write>(
     writer: &mut W,
-    correction: &[u8],
-    master: &[u8],
-    format: Format,
-    given: &[usize],
-    kept: &[usize],
-    news: &[u64],
-    olds: &[u64],
-    out: &mut [u8],
-) -> io::Result<()>
-    requires facts { Facts format }
-    requires in_bounds { 786 ≤ length out.old }
-{
-    let mut n: usize = 0;
-    while n < olds.len() {
-        let Corrected::Entry(named) = indexed_entry(news, olds, n) else {
+    correction: &Indexed<'_>,
+    master: &Indexed<'_>,
+    usable: Usable,
+    out: &mut Output,
+) -> io::Result<()> {
+    for n in 0..master.numbers.len() {
+        let Ok(named) = indexed_entry(correction.numbers, master.numbers, n) else {
             return Ok(());
         };
-        write_named(writer, correction, master, format, given, kept, named, out)?;
-        n += 1;
+        write_named(writer, correction, master, usable, named, out)?;
     }
     Ok(())
-}
-
-// The line of a block that has an entry of its own, and how many lines that is.
-fn write_own<W: Write>(
-    writer: &mut W,
-    correction: &[u8],
-    format: Format,
-    given: &[usize],
-    n: usize,
-    new: bool,
-    out: &mut [u8],
-) -> io::Result<usize>
-    requires facts { Facts format }
-    requires in_bounds { 786 ≤ length out.old }
-    ensures { IfOk result (λ k. k ≤ 1) }
-{
-    if new {
-        write_block(writer, correction, format, given, n, out)?;
-        return Ok(1);
-    }
-    Ok(0)
 }
 
 // The lines of the entries that only the correction has, and how many they are.
 fn write_new<W: Write>(
     writer: &mut W,
-    correction: &[u8],
-    format: Format,
-    given: &[usize],
-    news: &[u64],
+    correction: &Indexed<'_>,
     olds: &[u64],
-    out: &mut [u8],
+    usable: Usable,
+    out: &mut Output,
 ) -> io::Result<usize>
-    requires facts { Facts format }
-    requires in_bounds { 786 ≤ length out.old }
-    ensures { IfOk result (λ k. k ≤ length news.now) }
+    ensures { IfOk result (λ k. k ≤ length correction.now.numbers.now) }
 {
     let mut written: usize = 0;
-    let mut n: usize = 0;
-    while n < news.len() {
-        let new = is_new(news, olds, n);
-        written += write_own(writer, correction, format, given, n, new, out)?;
-        n += 1;
+    for n in 0..correction.numbers.len() {
+        if is_new(correction.numbers, olds, n) {
+            write_block(writer, correction, usable, n, out)?;
+            written += 1;
+        }
     }
     Ok(written)
 }
 
-// The lines of all entries and their count, by the indexes of the two tapes.
+// The lines of all entries and their count.
 fn write_entries<W: Write>(
     writer: &mut W,
-    correction: &[u8],
-    master: &[u8],
-    format: Format,
-    given: &[usize],
-    kept: &[usize],
-    news: &[u64],
-    olds: &[u64],
-    out: &mut [u8],
-) -> io::Result<()>
-    requires facts { Facts format }
-    requires in_bounds { 786 ≤ length out.old }
-{
-    write_masters(
-        writer, correction, master, format, given, kept, news, olds, out,
-    )?;
-    let new = write_new(writer, correction, format, given, news, olds, out)?;
-    write_last(writer, Counted::Blocks(olds.len() + new), out)
+    correction: &Indexed<'_>,
+    master: &Indexed<'_>,
+    usable: Usable,
+    out: &mut Output,
+) -> io::Result<()> {
+    write_masters(writer, correction, master, usable, out)?;
+    let new = write_new(writer, correction, master.numbers, usable, out)?;
+    write_last(writer, Ok(master.numbers.len() + new), &mut out[..])
 }
 
 // The entries of two tapes: each is indexed, and its refusal is the answer.
@@ -253,109 +169,91 @@ fn list_under<W: Write>(
     writer: &mut W,
     correction: &[u8],
     master: &[u8],
-    format: Format,
-    out: &mut [u8],
-) -> io::Result<()>
-    requires facts { Facts format }
-    requires in_bounds { 786 ≤ length out.old }
-{
+    usable: Usable,
+    out: &mut Output,
+) -> io::Result<()> {
     let mut given = [0usize; BLOCKS];
     let mut news = [0u64; BLOCKS];
     let mut kept = [0usize; BLOCKS];
     let mut olds = [0u64; BLOCKS];
-    let corrections = build_under(correction, format, &mut given, &mut news);
-    let Counted::Blocks(c) = corrections else {
-        return write_last(writer, corrections, out);
+    let c = match build_under(correction, usable, &mut given, &mut news) {
+        Ok(c) => c,
+        Err(r) => return write_last(writer, Err(Said::from(r)), &mut out[..]),
     };
-    let masters = build_under(master, format, &mut kept, &mut olds);
-    let Counted::Blocks(m) = masters else {
-        return write_last(writer, masters, out);
+    let m = match build_under(master, usable, &mut kept, &mut olds) {
+        Ok(m) => m,
+        Err(r) => return write_last(writer, Err(Said::from(r)), &mut out[..]),
     };
-    write_entries(
-        writer,
-        correction,
-        master,
-        format,
-        &given[..c],
-        &kept[..m],
-        &news[..c],
-        &olds[..m],
-        out,
-    )
+    let corrections = Indexed {
+        tape: correction,
+        firsts: &given[..c],
+        numbers: &news[..c],
+    };
+    let masters = Indexed {
+        tape: master,
+        firsts: &kept[..m],
+        numbers: &olds[..m],
+    };
+    write_entries(writer, &corrections, &masters, usable, out)
 }
 
 // The correction's own refusal comes first, then the master's.
 fn list_tapes<W: Write>(
     writer: &mut W,
-    edition: u32,
-    text: &[u8],
-    profile: &[u8],
+    terms: &Terms<'_>,
     correction: &[u8],
     master: &[u8],
-    out: &mut [u8],
-) -> io::Result<()>
-    requires { 786 ≤ length out.old }
-{
-    let given = count_listed(edition, text, profile, correction);
-    let Counted::Blocks(_) = given else {
-        return write_last(writer, given, out);
-    };
-    let kept = count_listed(edition, text, profile, master);
-    let Counted::Blocks(_) = kept else {
-        return write_last(writer, kept, out);
-    };
-    let parsed = profile::parse(edition, text, profile);
-    let outcome = parsed.outcome;
-    let format = parsed.format;
-    let Checked::Clean = outcome else {
-        return Ok(());
-    };
-    list_under(writer, correction, master, format, out)
+    out: &mut Output,
+) -> io::Result<()> {
+    if let Err(r) = count_listed(terms, correction) {
+        return write_last(writer, Err(Said::from(r)), &mut out[..]);
+    }
+    if let Err(r) = count_listed(terms, master) {
+        return write_last(writer, Err(Said::from(r)), &mut out[..]);
+    }
+    match profile::parse(terms) {
+        Ok(usable) => list_under(writer, correction, master, usable, out),
+        Err(_) => Ok(()),
+    }
 }
 
+// Without a header, or one that says how the rows are parted, the answer is 1 at 0.
 fn list_input<W: Write>(
     writer: &mut W,
     input: &[u8],
     profile: &[u8],
-    out: &mut [u8],
-) -> io::Result<()>
-    requires { 786 ≤ length out.old }
-{
-    let header = read_header(input);
-    let from = header.from;
-    let to = header.to;
-    let behind = header.rows;
-    let text = &input[from..to];
-    let rows = &input[behind..];
-    let sizes = split_text(text, rows.len());
-    let end = sizes.shorthand;
-    let c = sizes.correction;
-    if sizes.given {
-        list_tapes(
-            writer,
-            header.edition,
-            &text[..end],
-            profile,
-            &rows[..c],
-            &rows[c..],
-            out,
-        )
-    } else {
-        let wrong = Refusal {
-            number: 1,
-            place: 0,
-        };
-        write_last(writer, Counted::Refused(wrong), out)
-    }
+    out: &mut Output,
+) -> io::Result<()> {
+    let wrong = Err(Said::from(Cause::Edition.at(0)));
+    let Ok(header) = read_header(input) else {
+        return write_last(writer, wrong, &mut out[..]);
+    };
+    let text = &input[header.from..header.to];
+    let rows = &input[header.rows..];
+    let Some(sizes) = split_text(text, rows.len()) else {
+        return write_last(writer, wrong, &mut out[..]);
+    };
+    let terms = Terms {
+        edition: header.edition,
+        shorthand: &text[..sizes.shorthand],
+        profile,
+    };
+    list_tapes(
+        writer,
+        &terms,
+        &rows[..sizes.correction],
+        &rows[sizes.correction..],
+        out,
+    )
 }
 
 fn main(rt: HostRuntime) -> io::Result<()> {
-    let mut space = input_space();
-    let mut argument = argument_space();
-    let mut out = output_space();
+    let mut input = space::<INPUT>();
+    let mut argument = space::<ARGUMENT>();
+    let mut out: Output = space();
     let size = read_profile(&rt, &mut argument);
-    let n = read_input(&mut rt.stdin(), &mut space)?;
-    let input = &space[..n];
+    let n = read_input(&mut rt.stdin(), &mut input)?;
+    let input = &input[..n];
     let profile = &argument[..size];
     list_input(&mut rt.stdout(), input, profile, &mut out)
 }

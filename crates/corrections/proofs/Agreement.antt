@@ -7,7 +7,7 @@ use native.Mathlib.Omega.{arith}
 use lib.ListN.{length, get_or}
 use borrow.Author.Tests.{lt-ltb}
 use Rattle.rows.specs.Answer.{Answer, taken, refused, ◌>>=◌}
-use Rattle.reading.specs.Parse.{Entry}
+use Rattle.reading.specs.declared.Entry.{Entry}
 use Rattle.reading.specs.Answers.{nowhere}
 use Rattle.reading.specs.Front.{part_of}
 use Rattle.index.specs.Index.{mark, numbers_of}

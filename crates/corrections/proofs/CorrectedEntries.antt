@@ -9,11 +9,10 @@ use native.Mathlib.Omega.{arith}
 use lib.Dec.{eqb}
 use lib.ListN.{length, get_or}
 use borrow.Author.Tests.{eqb-true, eqb-false, eq-eqb}
-use Rattle.rows.specs.Answer.{Answer, taken, refused}
 use Rattle.index.specs.Index.{mark}
 use Rattle.index.specs.Finding.{number_found}
 use Rattle.corrections.specs.declared.Named.{Named}
-use Rattle.corrections.specs.Listing.{on_master, on_correction, number_at, is_at, is_found, given, entry_for, is_new, new_from}
+use Rattle.corrections.specs.Listing.{on_master, on_correction, number_at, is_found, entry_for, is_new, new_from}
 use Rattle.corrections.proofs.FoundNumbers.{First, None, Found, look}
 
 module _ (cs ms : List ℕ) where

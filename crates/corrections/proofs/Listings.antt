@@ -8,8 +8,7 @@ use Rattle.rows.specs.Answer.{taken}
 use Rattle.corrections.specs.declared.Named.{Named}
 use Rattle.corrections.specs.Listing.{on_master, entry_for, masters_from, new_from, listing}
 use Rattle.corrections.specs.Answers.{nth_named}
-use Rattle.corrections.specs.Rolls.{counted_behind}
-use Rattle.corrections.proofs.NthEntry.{nth-first, nth-behind}
+use Rattle.corrections.proofs.NthEntry.{counted_behind, nth-first, nth-behind}
 
 module _ (cs ms : List ℕ) where
   masters-length : (k i : ℕ) → length (masters_from cs ms k i) ≡ k

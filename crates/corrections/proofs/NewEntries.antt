@@ -1,28 +1,19 @@
 -- The search for the new entry with so many before it, over the blocks of the correction.
 use Prim.Native.Nat.{ℕ, suc, ◌+◌, ◌-◌, ◌≤◌, ◌<◌}
-use mathlib.Core.Path.{◌≡◌, refl, sym, ap, ◌∙◌}
-use mathlib.Core.Bool.{Bool, true, false, ◌&&◌}
+use mathlib.Core.Path.{◌≡◌, sym, ap, ◌∙◌}
+use mathlib.Core.Bool.{Bool, true, false}
 use mathlib.Core.List.{List, [], ◌∷◌, ◌++◌, append-nil}
 use native.Mathlib.Numerals.{add-one}
 use native.Mathlib.Omega.{arith}
-use lib.Dec.{eqb}
 use lib.ListN.{length, length-append}
 use lib.Seq.{append_snoc, get_or-append_seam}
-use borrow.Author.Tests.{lt-ltb, le-ltb, eqb-true, eqb-false}
+use borrow.Author.Tests.{lt-ltb, le-ltb}
 use Rattle.rows.specs.Answer.{taken, refused}
 use Rattle.corrections.specs.declared.Named.{Named}
-use Rattle.corrections.specs.Listing.{on_master, on_correction, is_new, new_from}
+use Rattle.corrections.specs.Listing.{on_master, on_correction, is_new, new_from, listing}
 use Rattle.corrections.specs.Answers.{nth_named}
-
--- ---- the test of a block: is it new, and is it the wanted one
-
-wanted-here : (new : Bool) (left : ℕ) → (new && eqb left 0) ≡ true → (new ≡ true) × (left ≡ 0)
-wanted-here true left e = (refl, eqb-true left 0 e)
-wanted-here false left e = (e, cc)
-
-pub some_left : (new : Bool) (left : ℕ) → (new && eqb left 0) ≡ false → new ≡ true → 0 < left
-some_left true left e h = let none = eqb-false left 0 e in omega (arith, none)
-some_left false left e h = let z : ◌≡◌ {A = ℕ} 0 1 = cc in absurd (omega (arith, z))
+use Rattle.corrections.proofs.NthEntry.{counted_behind}
+use Rattle.corrections.proofs.Listings.{listed-new}
 
 module _ (cs ms : List ℕ) where
   -- ---- one block
@@ -56,12 +47,8 @@ module _ (cs ms : List ℕ) where
     start = let z : k - 0 ≡ k = omega arith in record { seen = []; split = rw z; counts = omega arith }
 
     module _ {left block : ℕ} (s : Seen left block) where
-      pub within : left ≤ wanted
-      within = omega (arith, s.counts)
-
-      pub step-new : block < k → {new : Bool} → new ≡ is_new cs ms block → (new && eqb left 0) ≡ false → new ≡ true → Seen (left - 1) (block + 1)
-      step-new l {new} is later e =
-          let some = some_left new left later e in
+      pub step-new : block < k → {new : Bool} → new ≡ is_new cs ms block → new ≡ true → (left ≡ 0 → ⊥) → Seen (left - 1) (block + 1)
+      step-new l is e some =
           let more = length-append s.seen (on_correction block ∷ []) in
           record {
             seen = s.seen ++ (on_correction block ∷ []);
@@ -72,17 +59,27 @@ module _ (cs ms : List ℕ) where
       pub step-old : block < k → {new : Bool} → new ≡ is_new cs ms block → new ≡ false → Seen left (block + 1)
       step-old l is e = record { seen = s.seen; split = s.split ∙ ap (λ r. s.seen ++ r) (old-here k block l (sym is ∙ e)); counts = s.counts }
 
-      pub found : block < k → {new : Bool} → new ≡ is_new cs ms block → (new && eqb left 0) ≡ true → nth_named wanted (new_from cs ms k 0) ≡ taken (on_correction block)
-      found l {new} is e =
-          let here = wanted-here new left e in
+      found : block < k → {new : Bool} → new ≡ is_new cs ms block → new ≡ true → left ≡ 0 → nth_named wanted (new_from cs ms k 0) ≡ taken (on_correction block)
+      found l is e none =
           let rest = new_from cs ms (k - (block + 1)) (block + 1) in
-          let all : new_from cs ms k 0 ≡ s.seen ++ on_correction block ∷ rest = s.split ∙ ap (λ r. s.seen ++ r) (new-here k block l (sym is ∙ here.0)) in
-          let at : length s.seen ≡ wanted = omega (arith, here.1, s.counts) in
+          let all : new_from cs ms k 0 ≡ s.seen ++ on_correction block ∷ rest = s.split ∙ ap (λ r. s.seen ++ r) (new-here k block l (sym is ∙ e)) in
+          let at : length s.seen ≡ wanted = omega (arith, none, s.counts) in
           let long = length-append s.seen (on_correction block ∷ rest) in
           rw (all, ← at, lt-ltb (length s.seen) (length (s.seen ++ on_correction block ∷ rest)) (omega (arith, long)), get_or-append_seam s.seen (on_correction block) rest (on_master 0))
 
-      pub ended : k ≤ block → nth_named wanted (new_from cs ms k 0) ≡ refused 15 (wanted - left)
+      ended : k ≤ block → nth_named wanted (new_from cs ms k 0) ≡ refused 15 (wanted - left)
       ended l =
           let all : new_from cs ms k 0 ≡ s.seen = s.split ∙ ap (λ r. s.seen ++ r) (none_more k block l) ∙ append-nil s.seen in
           let at : length s.seen ≡ wanted - left = omega (arith, s.counts) in
           rw (all, le-ltb wanted (length s.seen) (omega (arith, s.counts)), at)
+
+  -- ---- behind the master's entries
+
+  module _ (n : ℕ) (behind : length ms ≤ n) {left block : ℕ} (s : Seen (length cs) (n - length ms) left block) where
+    pub listed-found : block < length cs → {new : Bool} → new ≡ is_new cs ms block → new ≡ true → left ≡ 0 → taken (on_correction block) ≡ nth_named n (listing cs ms)
+    listed-found l is e none = sym (listed-new cs ms n behind ∙ ap (counted_behind (length ms)) (found _ _ s l is e none))
+
+    pub listed-ended : length cs ≤ block → refused 15 (n - left) ≡ nth_named n (listing cs ms)
+    listed-ended l =
+        let e : length ms + (n - length ms - left) ≡ n - left = omega (arith, behind, s.counts) in
+        sym (listed-new cs ms n behind ∙ ap (counted_behind (length ms)) (ended _ _ s l) ∙ ap (refused 15) e)

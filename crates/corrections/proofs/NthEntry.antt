@@ -2,36 +2,23 @@
 use Prim.Native.Nat.{ℕ, ◌+◌, ◌≤◌, ◌<◌}
 use mathlib.Core.Path.{◌≡◌, refl}
 use mathlib.Core.Bool.{Bool, true, false, cond}
-use mathlib.Core.List.{List, ◌∷◌, ◌++◌}
+use mathlib.Core.List.{List, ◌++◌}
 use native.Mathlib.Omega.{arith}
 use lib.Dec.{ltb}
 use lib.ListN.{length, get_or, length-append, get_or-append}
-use lib.Seq.{get_or_at, get_or-append-add}
+use lib.Seq.{get_or-append-add}
 use borrow.Author.Tests.{lt-ltb, le-ltb, ltb-true, ltb-false}
-use Rattle.rows.specs.Answer.{taken, refused}
-use Rattle.reading.proofs.Outcomes.{never}
+use Rattle.rows.specs.Answer.{Answer, taken, refused}
 use Rattle.corrections.specs.declared.Named.{Named}
 use Rattle.corrections.specs.Listing.{on_master}
 use Rattle.corrections.specs.Answers.{nth_named}
-use Rattle.corrections.specs.Rolls.{counted_behind}
+
+-- a refusal of so many entries, counted behind others
+abbrev pub counted_behind : ℕ → Answer Named → Answer Named
+counted_behind k (taken x) = taken x
+counted_behind k (refused n p) = refused n (k + p)
 
 module _ (n : ℕ) (xs : List Named) where
-  pub nth-at : (x : Named) (ys : List Named) → length xs ≡ n → nth_named n (xs ++ x ∷ ys) ≡ taken x
-  nth-at x ys e =
-      let l : n < length (xs ++ x ∷ ys) = omega (arith, e, length-append xs (x ∷ ys)) in
-      rw (lt-ltb n (length (xs ++ x ∷ ys)) l, get_or_at xs x ys (on_master 0) n e)
-
-  pub nth_past : length xs ≤ n → nth_named n xs ≡ refused 15 (length xs)
-  nth_past l = rw (le-ltb n (length xs) l)
-
-  -- a refusal's place is at most what was asked for
-  pub refused-most : (m p : ℕ) → refused m p ≡ nth_named n xs → p ≤ n
-  refused-most m p e = by (ltb n (length xs)) refl e
-    where
-      by : (b : Bool) → ltb n (length xs) ≡ b → refused m p ≡ cond b (taken (get_or xs n (on_master 0))) (refused 15 (length xs)) → p ≤ n
-      by true q h = never h
-      by false q h = let same : p ≡ length xs = cc in omega (arith, same, ltb-false n (length xs) q)
-
   module _ (ys : List Named) where
     pub nth-first : n < length xs → nth_named n (xs ++ ys) ≡ taken (get_or xs n (on_master 0))
     nth-first l =

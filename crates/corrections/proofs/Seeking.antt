@@ -1,31 +1,28 @@
--- The blocks of an accepted tape, read one behind another to the first with a number.
+-- The blocks of an accepted tape: block n, and the search for the first that has a number, block by block.
 use Prim.Native.Nat.{ℕ, zero, suc, ◌+◌, ◌≤◌, ◌<◌}
 use mathlib.Core.Path.{◌≡◌, refl, sym, ap, ◌∙◌}
-use mathlib.Core.Bool.{true, false, not}
+use mathlib.Core.Bool.{not}
 use mathlib.Core.List.{List, [], ◌∷◌}
-use native.Mathlib.Nat.{le_of_suc-le-suc, not-suc-le-zero}
 use native.Mathlib.Numerals.{add-one}
+use native.Mathlib.Nat.{le_of_suc-le-suc, not-suc-le-zero}
+use native.Mathlib.Decide.{dec_lt}
 use native.Mathlib.Omega.{arith}
-use lib.Dec.{eqb}
-use lib.ListN.{length, get_or, drop, length-map, get_or-eq_default}
+use lib.ListN.{length, get_or, drop, length-map}
+use borrow.Author.Tests.{lt-ltb, le-ltb, ne_eqb}
 use Rattle.rows.specs.Answer.{Answer, taken, refused}
 use Rattle.shorthand.specs.declared.Format.{Format}
 use Rattle.reading.specs.declared.Part.{Part}
-use Rattle.reading.specs.declared.EntryAnswer.{EntryAnswer}
-use Rattle.reading.specs.Parse.{Entry}
-use Rattle.reading.specs.Answers.{nowhere, read}
-use Rattle.reading.specs.Front.{part_of, part_in}
-use Rattle.reading.specs.Survey.{entry_from, entry_answer}
+use Rattle.reading.specs.declared.Entry.{Entry}
+use Rattle.reading.specs.Answers.{nowhere, nth, read}
+use Rattle.reading.specs.Front.{part_of, part_in, has_block}
+use Rattle.reading.specs.Survey.{entry_from}
 use Rattle.reading.proofs.Accepted.{read_taken}
 use Rattle.reading.proofs.OwnRows.{own-from}
 use Rattle.reading.proofs.Places.{places}
 use Rattle.index.specs.Index.{mark, marked, number_in, numbers_of, entries_of}
 use Rattle.index.specs.Finding.{first_at, number_found}
-use Rattle.index.proofs.FirstNumber.{first-here, first-later, first-none, mark-found, other-found, none_found}
-use Rattle.corrections.specs.declared.Roll.{Roll}
-use Rattle.corrections.specs.Listing.{number_at}
-use Rattle.corrections.specs.Rolls.{Rolls, part_for}
-use Rattle.corrections.proofs.JudgedTapes.{rolls-read, rolls-count, rolls-first}
+use Rattle.index.proofs.FirstNumber.{first-here, first-later, first-none, other-found, none_found}
+use Rattle.corrections.specs.Rolls.{Rolls, sought}
 
 -- ---- the number of block n
 
@@ -37,77 +34,81 @@ number-of-entry [] n d l = absurd (not-suc-le-zero l)
 number-of-entry (x ∷ es) zero d l = refl
 number-of-entry (x ∷ es) (suc n) d l = number-of-entry es n d (le_of_suc-le-suc l)
 
-module _ (f : Format) (t : List ℕ) where
-  abbrev ns : List ℕ
-  ns = numbers_of (entries_of f t)
+-- ---- block n
 
-  -- block n begins at a row, and no block before it has the number q
-  pub record Seeks (q n from : ℕ) : Type 0 where
-    pub stands : n < length (entries_of f t) → from ≡ (get_or (entries_of f t) n nowhere).from
-    pub later : first_at q 0 (numbers_of (entries_of f t)) ≡ first_at q n (drop n (numbers_of (entries_of f t)))
+module _ (f : Format) (t : List ℕ) {first count : ℕ} (rolls : Rolls f t first count) where
+  inside : (n : ℕ) → n < count → n < length (entries_of f t)
+  inside n l = omega (arith, l, rolls.counts)
 
-  -- what is handed back: the block, and where it stands
-  abbrev pub Told : ℕ → Answer ℕ → Part → Type 0
-  Told q found part = (found ≡ number_found (numbers_of (entries_of f t)) q) × (part ≡ part_for (entries_of f t) (number_found (numbers_of (entries_of f t)) q))
+  module _ (n : ℕ) where
+    module _ (l : n < count) where
+      own : entry_from f t (get_or (entries_of f t) n nowhere).from ≡ taken (get_or (entries_of f t) n nowhere)
+      own = own-from f t rolls.accepted n (inside n l)
 
-module _ (f : Format) (t : List ℕ) {roll : Roll} (rolls : Rolls f t roll) where
-  inside : (n : ℕ) → n < roll.count → n < length (entries_of f t)
-  inside n l = omega (arith, l, rolls-count f t rolls)
+      part-own : (part : Part) → taken part ≡ part_in n (read f t) → entry_from f t part.from ≡ nth n (entries_of f t)
+      part-own part e =
+          let found : ◌≡◌ {A = Answer Part} (taken part) (taken (part_of (get_or (entries_of f t) n nowhere))) = rw rolls.accepted at e in
+          let same : part ≡ part_of (get_or (entries_of f t) n nowhere) = cc in
+          rw (same, lt-ltb n (length (entries_of f t)) (inside n l)) own
 
-  module _ (n from : ℕ) (l : n < roll.count) (stands : from ≡ (get_or (entries_of f t) n nowhere).from) (x : EntryAnswer) (e : x ≡ entry_answer (entry_from f t from)) where
-    -- what begins where block n does is block n
-    own-answer : x ≡ entry_answer (taken (get_or (entries_of f t) n nowhere))
-    own-answer = e ∙ ap (λ i. entry_answer (entry_from f t i)) stands ∙ ap entry_answer (own-from f t (rolls-read f t rolls) n (inside n l))
+      -- what begins where block n does is block n
+      pub block-own : (from : ℕ) → from ≡ (get_or (entries_of f t) n nowhere).from → (x : Entry) → taken x ≡ entry_from f t from → x ≡ get_or (entries_of f t) n nowhere
+      block-own from stands x e = let z = e ∙ ap (entry_from f t) stands ∙ own in cc
 
-    own-part : x.part ≡ part_of (get_or (entries_of f t) n nowhere)
-    own-part = ap (λ a. a.part) own-answer
+      pub block-there : (from : ℕ) → from ≡ (get_or (entries_of f t) n nowhere).from → (m p : ℕ) → refused m p ≡ entry_from f t from → ⊥
+      block-there from stands m p e = let z = e ∙ ap (entry_from f t) stands ∙ own in cc
 
-    own-number : (m d : ℕ) → m ≡ marked x.block.numbered x.block.sequence → m ≡ get_or (numbers_of (entries_of f t)) n d
-    own-number m d h = h ∙ ap (λ a. number_in a.block) own-answer ∙ sym (number-of-entry (entries_of f t) n d (inside n l))
-
-  pub no_number : (n : ℕ) → roll.count ≤ n → mark ≡ number_at (numbers_of (entries_of f t)) n
-  no_number n l =
-      let es = entries_of f t in
-      sym (get_or-eq_default (numbers_of es) mark {n = n} (omega (arith, l, rolls-count f t rolls, numbers-length es)))
-
-  pub surveyed-number : (n : ℕ) → n < roll.count → (part : Part) → part ≡ part_in n (read f t) → (x : EntryAnswer) → x ≡ entry_answer (entry_from f t part.from)
-      → (m : ℕ) → m ≡ marked x.block.numbered x.block.sequence → m ≡ number_at (numbers_of (entries_of f t)) n
-  surveyed-number n l part p x e m h = own-number n part.from l (ap (λ a. a.from) p) x e m mark h
+    pub nth-own : taken tt ≡ has_block n (taken count) → (part : Part) → taken part ≡ part_in n (read f t) → entry_from f t part.from ≡ nth n (entries_of f t)
+    nth-own h part e =
+        elim (dec_lt n count) [
+          | yes l ↦ part-own l part e
+          | no l ↦ let k : count ≤ n = omega (arith, l) in let z = rw (le-ltb n count k) at h in cc
+        ]
 
   -- ---- the search
 
+  abbrev ns : List ℕ
+  ns = numbers_of (entries_of f t)
+
   module _ (q : ℕ) where
-    told : (found : Answer ℕ) → number_found (ns f t) q ≡ found → (part : Part) → part ≡ part_for (entries_of f t) found → Told f t q found part
-    told found e part p = rw e (refl, p)
+    -- block n begins at a row, and no block before it has the number q
+    pub record Seeks (n from : ℕ) : Type 0 where
+      pub stands : n < length (entries_of f t) → from ≡ (get_or (entries_of f t) n nowhere).from
+      pub later : first_at q 0 (numbers_of (entries_of f t)) ≡ first_at q n (drop n (numbers_of (entries_of f t)))
 
-    pub seeks-start : Seeks f t q 0 roll.first
-    seeks-start = record { stands = λ l. rolls-first f t rolls; later = refl }
+    pub seeks-start : Seeks 0 first
+    seeks-start = record { stands = λ l. rolls.begins; later = refl }
 
-    module _ {n from : ℕ} (s : Seeks f t q n from) where
-      pub none-sought : roll.count ≤ n → Told f t q (refused 25 0) (part_of nowhere)
-      none-sought l =
-          let long = numbers-length (entries_of f t) in
-          told (refused 25 0) (none_found (ns f t) q (s.later ∙ first-none (ns f t) q n (omega (arith, l, long, rolls-count f t rolls)))) (part_of nowhere) refl
+    no-sought : number_found ns q ≡ refused 25 0 → refused 25 0 ≡ sought (entries_of f t) q
+    no-sought e = rw e
 
-      module _ (l : n < roll.count) (x : EntryAnswer) (e : x ≡ entry_answer (entry_from f t from)) (m : ℕ) (h : m ≡ marked x.block.numbered x.block.sequence) where
-        inside-numbers : n < length (ns f t)
-        inside-numbers = let long = numbers-length (entries_of f t) in omega (arith, long, inside n l)
+    module _ {n from : ℕ} (s : Seeks n from) where
+      pub none-sought : count ≤ n → refused 25 0 ≡ sought (entries_of f t) q
+      none-sought l = let long = numbers-length (entries_of f t) in no-sought (none_found ns q (s.later ∙ first-none ns q n (omega (arith, l, long, rolls.counts))))
 
-        number-here : get_or (ns f t) n 0 ≡ m
-        number-here = sym (own-number n from l (s.stands (inside n l)) x e m 0 h)
+      module _ (l : n < count) where
+        pub seek-there : (m p : ℕ) → refused m p ≡ entry_from f t from → ⊥
+        seek-there m p e = block-there n l from (s.stands (inside n l)) m p e
 
-        pub here : not (eqb q mark) ≡ true → m ≡ q → Told f t q (taken n) x.part
-        here other same =
-            told (taken n) (other-found (ns f t) q other ∙ s.later ∙ first-here (ns f t) q n inside-numbers (number-here ∙ same)) x.part (own-part n from l (s.stands (inside n l)) x e)
+        module _ (x : Entry) (e : taken x ≡ entry_from f t from) (m : ℕ) (h : m ≡ marked x.block.numbered x.block.sequence) where
+          is-own : x ≡ get_or (entries_of f t) n nowhere
+          is-own = block-own n l from (s.stands (inside n l)) x e
 
-        pub passed : (m ≡ q → ⊥) → Seeks f t q (n + 1) x.part.to
-        passed differs =
-            let ends = ap (λ p. p.to) (own-part n from l (s.stands (inside n l)) x e) in
-            let p = places f t (entries_of f t) (read_taken f t (rolls-read f t rolls)).1 nowhere in
-            record {
-              stands = λ k. ends ∙ sym (ap (λ i. (get_or (entries_of f t) i nowhere).from) (add-one n) ∙ p.next n (rw (add-one n) at k));
-              later = s.later ∙ first-later (ns f t) q n inside-numbers (λ z. differs (sym number-here ∙ z));
-            }
+          inside-numbers : n < length ns
+          inside-numbers = let long = numbers-length (entries_of f t) in omega (arith, long, inside n l)
 
-    pub mark-sought : not (eqb q mark) ≡ false → Told f t q (refused 25 0) (part_of nowhere)
-    mark-sought e = told (refused 25 0) (mark-found (ns f t) q e) (part_of nowhere) refl
+          own-number : get_or ns n 0 ≡ m
+          own-number = number-of-entry (entries_of f t) n 0 (inside n l) ∙ sym (h ∙ ap (λ (y : Entry). number_in y.block) is-own)
+
+          pub here : (q ≡ mark → ⊥) → m ≡ q → taken (record { block = n; part = part_of x }) ≡ sought (entries_of f t) q
+          here other same =
+              let found = other-found ns q (ap not (ne_eqb q mark other)) ∙ s.later ∙ first-here ns q n inside-numbers (own-number ∙ same) in
+              rw (found, is-own)
+
+          pub passed : (m ≡ q → ⊥) → Seeks (n + 1) x.to
+          passed differs =
+              let p = places f t (entries_of f t) (read_taken f t rolls.accepted).1 nowhere in
+              record {
+                stands = λ k. ap (λ (y : Entry). y.to) is-own ∙ sym (ap (λ i. (get_or (entries_of f t) i nowhere).from) (add-one n) ∙ p.next n (rw (add-one n) at k));
+                later = s.later ∙ first-later ns q n inside-numbers (λ z. differs (sym own-number ∙ z));
+              }

@@ -5,7 +5,7 @@ use mathlib.Core.List.{List}
 use lib.ListN.{length, take}
 use Rattle.rows.specs.Answer.{taken}
 use Rattle.profile.specs.Answers.{agreed}
-use Rattle.reading.specs.Parse.{Entry}
+use Rattle.reading.specs.declared.Entry.{Entry}
 use Rattle.reading.specs.Answers.{read, read_under}
 use Rattle.reading.proofs.Programs.{from-taken}
 use Rattle.index.specs.Index.{Indexes}

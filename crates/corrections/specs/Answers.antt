@@ -1,15 +1,14 @@
 -- What is answered of a correction tape and a master tape: the correction's own refusal first, then the master's, then 25 at 0, or 15 at the number of entries
 -- (document 02, 8/12).
 use Rattle.std.specs.Prelude.{ℕ, ◌-◌, cond, List, ltb, length, get_or, take, drop}
-use Rattle.rows.specs.Answer.{Answer, taken, refused, refusal, ◌>>=◌}
+use Rattle.rows.specs.Answer.{Answer, taken, refused, ◌>>=◌}
 use Rattle.shorthand.specs.declared.Format.{Format}
 use Rattle.profile.specs.Answers.{agreed}
-use Rattle.reading.specs.Parse.{Entry}
+use Rattle.reading.specs.declared.Entry.{Entry}
 use Rattle.reading.specs.Answers.{nowhere, read}
 use Rattle.reading.specs.Front.{part_of}
 use Rattle.index.specs.Index.{numbers_of}
 use Rattle.index.specs.Finding.{number_found}
-use Rattle.corrections.specs.declared.Corrected.{Corrected}
 use Rattle.corrections.specs.declared.Named.{Named}
 use Rattle.corrections.specs.declared.Place.{Place}
 use Rattle.corrections.specs.declared.Tape.{Tape}
@@ -76,8 +75,3 @@ rows_there c m x = take (x.part.to - x.part.from) (drop x.part.from (tape_of c m
 -- the rows of the first block with the number q, as a part of whichever tape holds them
 abbrev pub rows_corrected : ℕ → List ℕ → List ℕ → List ℕ → List ℕ → ℕ → Answer (List ℕ)
 rows_corrected e s p c m q = place_corrected e s p c m q >>= λ x. taken (rows_there c m x)
-
--- what each case of `Corrected` says
-abbrev pub corrected_told : Corrected → Answer Named
-corrected_told (Corrected.Entry x) = taken x
-corrected_told (Corrected.Refused r) = refusal r

@@ -4,7 +4,6 @@ use Rattle.std.specs.Prelude.{ℕ, zero, suc, Bool, true, false, ◌&&◌, not, 
 use Rattle.rows.specs.Answer.{Answer, taken, refused}
 use Rattle.index.specs.Index.{mark}
 use Rattle.index.specs.Finding.{number_found}
-use Rattle.corrections.specs.declared.Tape.{Tape}
 use Rattle.corrections.specs.declared.Tape.TheVariants.{Correction, Master}
 use Rattle.corrections.specs.declared.Named.{Named}
 

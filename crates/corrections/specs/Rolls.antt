@@ -1,54 +1,39 @@
 -- What the private functions ask for and say: a tape that was judged, and what is found on it.
-use Rattle.std.specs.Prelude.{ℕ, ◌+◌, ◌≡◌, List, length, get_or}
-use Rattle.rows.specs.declared.Checked.TheVariants.{Clean, Refused}
-use Rattle.rows.specs.Answer.{Answer, taken, refused, refusal, ◌>>=◌}
+use Rattle.std.specs.Prelude.{ℕ, ◌≡◌, List, [], ◌∷◌, length, get_or, refl}
+use Rattle.std.proofs.Props.{props}
+use Rattle.std.proofs.Math.Dec.{T_prop}
+use Rattle.rows.specs.Answer.{Answer, taken, ◌>>=◌}
 use Rattle.shorthand.specs.declared.Format.{Format}
-use Rattle.reading.specs.declared.Part.{Part}
-use Rattle.reading.specs.Parse.{Entry}
+use Rattle.shorthand.specs.declared.Kind.{Kind}
+use Rattle.shorthand.specs.declared.Item.{Item}
+use Rattle.shorthand.specs.Facts.{Widths, Fair, none, more, Facts}
+use Rattle.reading.specs.declared.Entry.{Entry}
 use Rattle.reading.specs.Answers.{nowhere, read}
 use Rattle.reading.specs.Front.{part_of}
-use Rattle.corrections.specs.declared.Judged.{Judged}
-use Rattle.corrections.specs.declared.Place.{Place}
-use Rattle.corrections.specs.declared.PlaceAnswer.{PlaceAnswer}
-use Rattle.corrections.specs.declared.Roll.{Roll}
-use Rattle.corrections.specs.declared.Tape.{Tape}
-use Rattle.corrections.specs.declared.Tape.TheVariants.{Master}
-use Rattle.corrections.specs.declared.Corrected.{Corrected}
-use Rattle.corrections.specs.declared.Named.{Named}
+use Rattle.index.specs.Index.{numbers_of, entries_of}
+use Rattle.index.specs.Finding.{number_found}
+use Rattle.corrections.specs.declared.tapes.Sought.{Sought}
 
--- how many blocks a tape has, and where the first begins
-abbrev pub roll_of : List Entry → Roll
-roll_of es = record { first = (get_or es 0 nowhere).from; count = length es }
+-- the tape is accepted, its first block begins at a row, and it has so many
+pub record Rolls (f : Format) (t : List ℕ) (first count : ℕ) : Type 0 where
+  pub facts : Facts f
+  pub accepted : read f t ≡ taken (entries_of f t)
+  pub begins : first ≡ (get_or (entries_of f t) 0 nowhere).from
+  pub counts : count ≡ length (entries_of f t)
 
-abbrev pub rolled : Answer (List Entry) → Answer Roll
-rolled a = a >>= λ es. taken (roll_of es)
+-- all of it has one proof, so that a struct can hold it
+one_width : (k : Kind) → IsProp (Widths k)
+one_width (Kind.Plain n) = Prim.hlevel props
+one_width (Kind.Speed n) = Prim.hlevel props
+one_width (Kind.Dimension d) = Prim.hlevel props
 
--- the tape is accepted, with these blocks
-abbrev pub Rolls : Format → List ℕ → Roll → Type 0
-Rolls f t r = (es : List Entry) × (read f t ≡ taken es) × (r ≡ roll_of es)
+one_fair : (its : List Item) → IsProp (Fair its)
+one_fair [] none none = refl
+one_fair (it ∷ its) (more a w b r) (more c v d s) = λ i. more (T_prop _ a c i) (one_width it.kind w v i) (T_prop _ b d i) (one_fair its r s i)
 
--- where a block that was found stands, or nowhere
-abbrev pub part_for : List Entry → Answer ℕ → Part
-part_for es (taken n) = part_of (get_or es n nowhere)
-part_for es (refused n p) = part_of nowhere
+pub one_roll : (f : Format) (t : List ℕ) (first count : ℕ) → IsProp (Rolls f t first count)
+one_roll f t first count = Prim.hlevel (props, one_fair)
 
-abbrev pub judged_told : Judged → Answer Roll
-judged_told (Judged.Accepted r) = taken r
-judged_told (Judged.Refused r) = refusal r
-
--- a part of a tape, where a block was found
-abbrev pub place_for : Tape → Part → Answer ℕ → Answer Place
-place_for on part found = found >>= λ n. taken (record { tape = on; part = part })
-
--- what is handed back of a place, or of a refusal
-abbrev pub no_place : Place
-no_place = record { tape = Master; part = part_of nowhere }
-
-abbrev pub place_answer : Answer Place → PlaceAnswer
-place_answer (taken x) = record { outcome = Clean; place = x }
-place_answer (refused n p) = record { outcome = Refused (record { number = n; place = p }); place = no_place }
-
--- a refusal of so many entries, counted behind others
-abbrev pub counted_behind : ℕ → Answer Named → Answer Named
-counted_behind k (taken x) = taken x
-counted_behind k (refused n p) = refused n (k + p)
+-- the first of some blocks that has the number q, and where it stands
+abbrev pub sought : List Entry → ℕ → Answer Sought
+sought es q = number_found (numbers_of es) q >>= λ n. taken (record { block = n; part = part_of (get_or es n nowhere) })

@@ -1,24 +1,11 @@
--- What a reply says of the answer beneath, it says of the definition that the answer is proved to be; and what is no speed has no code.
+-- What is no speed has no code.
 use Prim.Native.Nat.{ℕ, ◌≤◌}
-use mathlib.Core.Path.{◌≡◌, ◌∙◌, ap}
+use mathlib.Core.Path.{◌≡◌}
 use lib.Dec.{lit≤}
-use Rattle.rows.specs.Answer.{Answer, refused, number_of, place_of, value_or}
-use Rattle.speeds.specs.declared.Speed.{Speed}
-use Rattle.speeds.specs.declared.Speed.TheVariants.{Rate}
+use Rattle.rows.specs.Answer.{refused}
 use Rattle.speeds.specs.Coding.{code_for}
 use Rattle.speeds.proofs.Answers.{code-beyond}
-use Rattle.crumbtrellis.specs.declared.Reply.{Reply}
-use Rattle.crumbtrellis.specs.declared.SpeedReply.{SpeedReply}
-use Rattle.crumbtrellis.specs.Crossing.{kind_of, units_of, beyond}
-use Rattle.crumbtrellis.specs.Replies.{Says, SaysSpeed}
-
-pub handed : {a b : Answer ℕ} {r : Reply} → Says a r → a ≡ b → (r.number ≡ number_of b) × ((r.place ≡ place_of b) × (r.value ≡ value_or 0 b))
-handed s e = (s.number ∙ ap number_of e, (s.place ∙ ap place_of e, s.value ∙ ap (value_or 0) e))
-
-pub handed-speed : {a b : Answer Speed} {r : SpeedReply} → SaysSpeed a r → a ≡ b
-    → (r.number ≡ number_of b) × ((r.place ≡ place_of b) × ((r.kind ≡ kind_of (value_or (Rate 0) b)) × (r.units ≡ units_of (value_or (Rate 0) b))))
-handed-speed s e =
-    (s.number ∙ ap number_of e, (s.place ∙ ap place_of e, (s.kind ∙ ap (λ x. kind_of (value_or (Rate 0) x)) e, s.units ∙ ap (λ x. units_of (value_or (Rate 0) x)) e)))
+use Rattle.crumbtrellis.specs.Crossing.{beyond}
 
 -- a kind over 2, or units with stop or rapid, is refused by 20 in any length of a code
 pub beyond-refused : (k : ℕ) → 2 ≤ k → k ≤ 5 → code_for k beyond ≡ refused 20 0

@@ -2,38 +2,30 @@
 #![tactic(auto)]
 
 ghost use Rattle.std.specs.Prelude.{◌≡◌};
-ghost use Rattle.rows.specs.Answer.{taken, refusal, number_of, place_of, value_or};
+ghost use Rattle.rows.specs.Answer.{told, number_of, place_of, value_or};
 ghost use Rattle.speeds.specs.Meaning.{speed_for};
 ghost use Rattle.speeds.specs.declared.Speed.TheVariants.{Rate};
-ghost use Rattle.speeds.specs.Coding.{speed_told, code_told, code_for};
-ghost use Rattle.reading.specs.Answers.{counted, count_told};
-ghost use Rattle.punching.specs.Answers.{punched_told, head_punched, written, after};
+ghost use Rattle.speeds.specs.Coding.{code_for};
+ghost use Rattle.reading.specs.Answers.{counted};
+ghost use Rattle.punching.specs.Answers.{head_punched, written, after};
 ghost use Rattle.crumbtrellis.specs.Crossing.{kind_of, units_of, handed};
-ghost use Rattle.crumbtrellis.specs.Replies.{Says, SaysSpeed};
+ghost use Rattle.crumbtrellis.specs.Replies.{Says};
 
-use punching::Punched;
-use reading::Counted;
+use profile::Terms;
 use rows::Refusal;
-use speeds::{Code, Speed, SpeedRead};
+use speeds::Speed;
 
-// What a C host is handed for an answer: the number returned, and what is left at `place` and at `value`.
+// What a C host is handed for an answer: the number returned, what is left at `place`, and the value, or what stands for none.
+// Stays so: numbers beside a value, and not a Result: the C interface, crumbtrellis_count_blocks and the three others
 #[derive(Clone, Copy)]
-struct Reply {
+struct Reply<T> {
     pub number: u32,
     pub place: u64,
-    pub value: u64,
-}
-
-// The same for a speed, which crosses as a kind and a number of units.
-#[derive(Clone, Copy)]
-struct SpeedReply {
-    pub number: u32,
-    pub place: u64,
-    pub kind: u32,
-    pub units: u64,
+    pub value: T,
 }
 
 // The kinds of a speed.
+// Stays so: numbers, and not an enum: the C interface, crumbtrellis_speed_of and crumbtrellis_code_of
 const RATE: u32 = 0;
 
 const STOP: u32 = 1;
@@ -43,71 +35,42 @@ const RAPID: u32 = 2;
 // A rate that no code has.
 const BEYOND: Speed = Speed::Rate(u64::MAX);
 
-fn accept(value: u64) -> Reply
-    ensures { Says (taken value) result }
-{
-    Reply {
-        number: 0,
-        place: 0,
-        value,
-    }
-}
-
-fn refuse(refused: Refusal) -> Reply
-    ensures { Says (refusal refused) result }
-{
-    Reply {
-        number: refused.number,
-        place: refused.place as u64,
-        value: 0,
-    }
-}
-
-fn tell_count(answer: Counted) -> Reply
-    ensures { Says (count_told answer) result }
+// An answer as a C host is handed it, with what stands for no value.
+fn tell<T: Copy>(answer: Result<T, Refusal>, none: T) -> Reply<T>
+    ensures { Says none (told answer) result }
 {
     match answer {
-        Counted::Blocks(n) => accept(n as u64),
-        Counted::Refused(r) => refuse(r),
+        Ok(value) => Reply {
+            number: 0,
+            place: 0,
+            value,
+        },
+        Err(refusal) => Reply {
+            number: u32::from(refusal.cause),
+            place: refusal.place as u64,
+            value: none,
+        },
     }
 }
 
-fn accept_speed(speed: Speed) -> SpeedReply
-    ensures { SaysSpeed (taken speed) result }
+// A speed's kind.
+fn kind_of(speed: Speed) -> u32
+    ensures { result ≡ kind_of speed }
 {
     match speed {
-        Speed::Stop => SpeedReply {
-            number: 0,
-            place: 0,
-            kind: STOP,
-            units: 0,
-        },
-        Speed::Rapid => SpeedReply {
-            number: 0,
-            place: 0,
-            kind: RAPID,
-            units: 0,
-        },
-        Speed::Rate(v) => SpeedReply {
-            number: 0,
-            place: 0,
-            kind: RATE,
-            units: v,
-        },
+        Speed::Rate(_) => RATE,
+        Speed::Stop => STOP,
+        Speed::Rapid => RAPID,
     }
 }
 
-fn tell_speed(answer: SpeedRead) -> SpeedReply
-    ensures { SaysSpeed (speed_told answer) result }
+// A speed's units, 0 for stop and rapid.
+fn units_of(speed: Speed) -> u64
+    ensures { result ≡ units_of speed }
 {
-    match answer {
-        SpeedRead::Is(s) => accept_speed(s),
-        SpeedRead::Refused(r) => SpeedReply {
-            number: r.number,
-            place: r.place as u64,
-            kind: RATE,
-            units: 0,
-        },
+    match speed {
+        Speed::Rate(units) => units,
+        Speed::Stop | Speed::Rapid => 0,
     }
 }
 
@@ -115,34 +78,11 @@ fn tell_speed(answer: SpeedRead) -> SpeedReply
 fn read_speed(kind: u32, units: u64) -> Speed
     ensures { result ≡ handed kind units }
 {
-    if kind == RATE {
-        return Speed::Rate(units);
-    }
-    if units != 0 {
-        return BEYOND;
-    }
-    match kind {
-        STOP => Speed::Stop,
-        RAPID => Speed::Rapid,
+    match (kind, units) {
+        (RATE, _) => Speed::Rate(units),
+        (STOP, 0) => Speed::Stop,
+        (RAPID, 0) => Speed::Rapid,
         _ => BEYOND,
-    }
-}
-
-fn tell_code(answer: Code) -> Reply
-    ensures { Says (code_told answer) result }
-{
-    match answer {
-        Code::Number(c) => accept(c),
-        Code::Refused(r) => refuse(r),
-    }
-}
-
-fn tell_rows(answer: Punched) -> Reply
-    ensures { Says (punched_told answer) result }
-{
-    match answer {
-        Punched::Rows(n) => accept(n as u64),
-        Punched::Refused(r) => refuse(r),
     }
 }
 
@@ -160,9 +100,14 @@ pub extern "C" fn crumbtrellis_count_blocks(
     ensures place { place.new ≡ place_of (counted edition shorthand.now profile.now tape.now) }
     ensures value { value.new ≡ value_or 0 (counted edition shorthand.now profile.now tape.now) }
 {
-    let reply = tell_count(reading::count_blocks(edition, shorthand, profile, tape));
+    let terms = Terms {
+        edition,
+        shorthand,
+        profile,
+    };
+    let reply = tell(reading::count_blocks(&terms, tape), 0);
     *place = reply.place;
-    *value = reply.value;
+    *value = reply.value as u64;
     reply.number
 }
 
@@ -180,10 +125,10 @@ pub extern "C" fn crumbtrellis_speed_of(
     ensures kind { kind.new ≡ kind_of (value_or (Rate 0) (speed_for digits code)) }
     ensures units { units.new ≡ units_of (value_or (Rate 0) (speed_for digits code)) }
 {
-    let reply = tell_speed(speeds::speed_of(digits, code));
+    let reply = tell(speeds::speed_of(digits, code), Speed::Rate(0));
     *place = reply.place;
-    *kind = reply.kind;
-    *units = reply.units;
+    *kind = kind_of(reply.value);
+    *units = units_of(reply.value);
     reply.number
 }
 
@@ -201,7 +146,7 @@ pub extern "C" fn crumbtrellis_code_of(
     ensures value { value.new ≡ value_or 0 (code_for digits (handed kind units)) }
 {
     let speed = read_speed(kind, units);
-    let reply = tell_code(speeds::code_of(digits, speed));
+    let reply = tell(speeds::code_of(digits, speed), 0);
     *place = reply.place;
     *value = reply.value;
     reply.number
@@ -219,8 +164,8 @@ pub extern "C" fn crumbtrellis_punch_head(
     ensures place { place.new ≡ place_of (written (head_punched buffer.old)) }
     ensures value { value.new ≡ value_or 0 (written (head_punched buffer.old)) }
 {
-    let reply = tell_rows(punching::punch_head(buffer));
+    let reply = tell(punching::punch_head(buffer), 0);
     *place = reply.place;
-    *value = reply.value;
+    *value = reply.value as u64;
     reply.number
 }

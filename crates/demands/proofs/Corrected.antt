@@ -9,7 +9,7 @@ use Rattle.rows.specs.Answer.{Answer, taken, refused, ◌>>=◌}
 use Rattle.rows.proofs.Outcomes.{Holds, refusal, value, holds-bind, holds-cond, of-refused}
 use Rattle.shorthand.specs.declared.Format.{Format}
 use Rattle.profile.specs.Answers.{agreed}
-use Rattle.reading.specs.Parse.{Entry}
+use Rattle.reading.specs.declared.Entry.{Entry}
 use Rattle.reading.specs.Answers.{read, read_under, counted, size_of}
 use Rattle.index.specs.Index.{numbers_of}
 use Rattle.index.specs.Finding.{number_found}

@@ -29,7 +29,7 @@ use Rattle.profile.proofs.Settling.{settled-exactly, unsettled-exactly, settled-
 use Rattle.reading.specs.declared.Block.{Block}
 use Rattle.words.specs.declared.Word.{Word}
 use Rattle.reading.specs.Record.{start_of, is_empty, words_of}
-use Rattle.reading.specs.Parse.{Entry}
+use Rattle.reading.specs.declared.Entry.{Entry}
 use Rattle.reading.specs.Answers.{nth, program_at, read, read_under, entry_numbered, counted, block_numbered, rows_numbered}
 use Rattle.punching.specs.Rows.{rows_of}
 use Rattle.punching.specs.Fits.{record_fits}

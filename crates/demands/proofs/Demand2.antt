@@ -16,7 +16,7 @@ use Rattle.profile.proofs.Settling.{settled-exactly}
 use Rattle.reading.specs.declared.Block.{Block}
 use Rattle.reading.specs.Record.{empty_block}
 use Rattle.reading.specs.Relation.{TapeOf}
-use Rattle.reading.specs.Parse.{Entry}
+use Rattle.reading.specs.declared.Entry.{Entry}
 use Rattle.reading.specs.Answers.{nowhere, read_under, counted, block_numbered}
 use Rattle.reading.proofs.Programs.{blocks_of, tape-read, read-tape}
 use Rattle.punching.specs.Rows.{head_rows, cleared}

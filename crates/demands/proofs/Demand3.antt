@@ -16,7 +16,7 @@ use Rattle.parts.specs.Ends.{entered}
 use Rattle.parts.proofs.Entering.{entered-refused}
 use Rattle.reading.specs.declared.Block.{Block}
 use Rattle.reading.specs.Relation.{TapeOf}
-use Rattle.reading.specs.Parse.{Entry}
+use Rattle.reading.specs.declared.Entry.{Entry}
 use Rattle.reading.specs.Answers.{nowhere, read, read_under, counted, block_numbered, rows_numbered, size_of}
 use Rattle.reading.specs.Remains.{Remains, all, later}
 use Rattle.reading.proofs.Programs.{one-program}

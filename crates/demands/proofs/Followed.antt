@@ -16,7 +16,7 @@ use Rattle.profile.specs.Answers.{agreed}
 use Rattle.profile.proofs.Settling.{settled-exactly, unsettled-exactly}
 use Rattle.reading.specs.declared.Block.{Block}
 use Rattle.reading.specs.Relation.{TapeOf}
-use Rattle.reading.specs.Parse.{Entry}
+use Rattle.reading.specs.declared.Entry.{Entry}
 use Rattle.reading.specs.Answers.{read, read_under, size_of, counted}
 use Rattle.reading.proofs.Programs.{from-taken, both-taken, tape-read}
 use Rattle.images.proofs.KeptRight.{take-map}

@@ -21,7 +21,8 @@ use Rattle.profile.specs.Relation.{Settled, Unsettled}
 use Rattle.profile.proofs.Settling.{settled-facts, settled-exactly}
 use Rattle.words.specs.Figures.{Behind}
 use Rattle.reading.specs.declared.Block.{Block}
-use Rattle.reading.specs.Parse.{BlockRead, Entry, entry, block_at}
+use Rattle.reading.specs.declared.Entry.{Entry}
+use Rattle.reading.specs.Parse.{BlockRead, entry, block_at}
 use Rattle.reading.specs.Answers.{read, read_under, counted}
 use Rattle.reading.specs.Front.{Rising, over, rise}
 use Rattle.reading.specs.Survey.{Surveyed, surveyed, entry_from}

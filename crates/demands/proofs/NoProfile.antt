@@ -13,7 +13,7 @@ use Rattle.profile.specs.Answers.{agreed}
 use Rattle.profile.specs.Relation.{Settled}
 use Rattle.profile.proofs.Settling.{settled-exactly, no_profile}
 use Rattle.reading.specs.declared.Block.{Block}
-use Rattle.reading.specs.Parse.{Entry}
+use Rattle.reading.specs.declared.Entry.{Entry}
 use Rattle.reading.specs.Answers.{nth, entry_rows, size_of, read, read_under, counted, block_numbered, rows_numbered}
 use Rattle.punching.specs.Answers.{block_for, block_punched}
 use Rattle.lines.specs.Listing.{listed, listed_under}

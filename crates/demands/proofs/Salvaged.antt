@@ -17,7 +17,7 @@ use Rattle.profile.specs.Relation.{Settled, Unsettled}
 use Rattle.profile.proofs.Settling.{settled-exactly, unsettled-exactly, settled-facts, agreed-facts}
 use Rattle.reading.specs.declared.Block.{Block}
 use Rattle.reading.specs.Relation.{TapeOf}
-use Rattle.reading.specs.Parse.{Entry}
+use Rattle.reading.specs.declared.Entry.{Entry}
 use Rattle.reading.specs.Answers.{read, read_under, counted}
 use Rattle.reading.proofs.Outcomes.{never}
 use Rattle.reading.proofs.Programs.{from-taken, tape-read}

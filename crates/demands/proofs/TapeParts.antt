@@ -22,7 +22,7 @@ use Rattle.profile.specs.Relation.{Settled}
 use Rattle.profile.proofs.Settling.{settled-exactly, one_format}
 use Rattle.reading.specs.declared.Block.{Block}
 use Rattle.reading.specs.Relation.{Blocked, none, more, Program, program, chars, TapeOf}
-use Rattle.reading.specs.Parse.{Entry}
+use Rattle.reading.specs.declared.Entry.{Entry}
 use Rattle.reading.specs.Answers.{program_at, read, read_under}
 use Rattle.reading.proofs.Outcomes.{chars-append}
 use Rattle.reading.proofs.Programs.{blocks_of, tape-read}

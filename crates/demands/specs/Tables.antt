@@ -9,7 +9,7 @@ use Rattle.shorthand.specs.declared.Format.{Format}
 use Rattle.profile.specs.Relation.{Settled, Unsettled}
 use Rattle.reading.specs.declared.Block.{Block}
 use Rattle.reading.specs.Record.{words_of}
-use Rattle.reading.specs.Parse.{Entry}
+use Rattle.reading.specs.declared.Entry.{Entry}
 use Rattle.reading.specs.Answers.{read_under, counted}
 use Rattle.punching.specs.Rows.{rows_of}
 use Rattle.index.specs.Index.{mark, numbers_of}

@@ -6,15 +6,16 @@
 #![tactic(auto)]
 
 ghost use Rattle.std.specs.Prelude.{◌≡◌, ◌≤◌, ◌<◌, length};
-ghost use Rattle.shorthand.specs.Facts.{Facts};
 
 use index::building::build_under;
 use index::finding::find_entry;
+use lines::Said;
 use lines::input::{count_listed, read_header};
-use printing::{argument_space, output_space, put_block, read_input, read_profile, write_last};
-use reading::{Block, Counted};
-use rows::{Checked, Refusal};
-use shorthand::{Format, Kind};
+use printing::{ARGUMENT, Output, put_block, read_input, read_profile, space, write_last};
+use profile::Terms;
+use reading::Block;
+use rows::Cause;
+use shorthand::{Kind, Usable};
 use slides::axes::{AXES, axis_of};
 use slides::{Slides, Travel};
 use std::env::FillError;
@@ -32,20 +33,6 @@ const FARTHEST: u64 = 1000000000000000000;
 
 const BEYOND: i64 = 1000000000000000001;
 
-// A place, read from the travel.
-#[derive(Clone, Copy)]
-enum Said {
-    Place(i64),
-    Nothing,
-}
-
-// Whether the travel is in form, and what it says.
-#[derive(Clone, Copy)]
-struct Given {
-    good: bool,
-    travel: Travel,
-}
-
 // How blocks are followed: what the caller gave.
 #[derive(Clone, Copy)]
 struct Asked {
@@ -54,18 +41,10 @@ struct Asked {
 }
 
 // The 200 bytes that a header may have, 60,000 rows, and one byte more, by which too many rows are seen.
-fn input_space() -> [u8; 60201]
-    ensures { 60201 ≡ length result }
-{
-    [0; 60201]
-}
+const INPUT: usize = 60201;
 
 // Room for the travel of 14 axes.
-fn travel_space() -> [u8; 800]
-    ensures { 800 ≡ length result }
-{
-    [0; 800]
-}
+const TRAVEL: usize = 800;
 
 // A whole number as a place; one that is larger than any travel may be is beyond.
 fn as_place(minus: bool, n: u64) -> i64 {
@@ -77,98 +56,66 @@ fn as_place(minus: bool, n: u64) -> i64 {
 }
 
 // A whole number in plain decimal, "-" before it or not.
-fn read_place(text: &[u8]) -> Said {
-    if text.len() == 0 {
-        return Said::Nothing;
-    }
-    let minus = text[0] == b'-';
-    let mut i: usize = if minus { 1 } else { 0 };
-    if text.len() <= i {
-        return Said::Nothing;
+fn read_place(text: &[u8]) -> Option<i64> {
+    let minus = text.first() == Some(&b'-');
+    let digits = if minus { &text[1..] } else { text };
+    if digits.is_empty() {
+        return None;
     }
     let mut n: u64 = 0;
-    while i < text.len() {
-        let digit = text[i];
-        if digit < 48 {
-            return Said::Nothing;
-        }
-        if 57 < digit {
-            return Said::Nothing;
+    for c in digits {
+        if !c.is_ascii_digit() {
+            return None;
         }
         if n <= FARTHEST {
-            n = 10 * n + (digit - 48) as u64;
+            n = 10 * n + (*c - b'0') as u64;
         }
-        i += 1;
     }
-    Said::Place(as_place(minus, n))
+    Some(as_place(minus, n))
 }
 
-// An axis of the travel: its letter, low, ":" and high.
-fn read_axis(text: &[u8], travel: Travel) -> Given {
-    let wrong = Given {
-        good: false,
-        travel,
-    };
-    if text.len() == 0 {
-        return wrong;
+// A travel with one axis of the text: its letter, low, ":" and high.
+fn read_axis(text: &[u8], travel: Travel) -> Option<Travel> {
+    if text.is_empty() {
+        return None;
     }
-    let a = axis_of(text[0]);
-    if 14 <= a {
-        return wrong;
-    }
+    let a = axis_of(text[0])?;
     let colon = find_byte(text, 1, text.len(), b':');
     if text.len() <= colon {
-        return wrong;
+        return None;
     }
-    let Said::Place(low) = read_place(&text[1..colon]) else {
-        return wrong;
-    };
-    let Said::Place(high) = read_place(&text[colon + 1..]) else {
-        return wrong;
-    };
+    let low = read_place(&text[1..colon])?;
+    let high = read_place(&text[colon + 1..])?;
     let mut next = travel;
     next.low[a] = low;
     next.high[a] = high;
-    Given {
-        good: true,
-        travel: next,
-    }
+    Some(next)
 }
 
-// The travel of all axes.
-fn read_travel(text: &[u8]) -> Given {
-    let mut given = Given {
-        good: true,
-        travel: Travel {
-            low: [-1000000000000000000; 14],
-            high: [1000000000000000000; 14],
-        },
+// The travel of all axes, where the text is in form.
+fn read_travel(text: &[u8]) -> Option<Travel> {
+    let mut travel = Travel {
+        low: [-1000000000000000000; 14],
+        high: [1000000000000000000; 14],
     };
     let mut from: usize = 0;
-    while from < text.len() && given.good {
+    // No `for`: axes differ in length.
+    while from < text.len() {
         let comma = find_byte(text, from, text.len(), b',');
-        let travel = given.travel;
-        given = read_axis(&text[from..comma], travel);
+        travel = read_axis(&text[from..comma], travel)?;
         from = comma + 1;
     }
-    given
+    Some(travel)
 }
 
 // Which axes the shorthand has.
-fn used_axes(format: Format) -> [bool; 14]
-    requires { Facts format }
-{
+fn used_axes(usable: Usable) -> [bool; 14] {
     let mut used = [false; 14];
-    let mut k: usize = 0;
-    while k < format.count {
-        let item = format.items[k];
-        k += 1;
-        let kind = item.kind;
-        let Kind::Dimension(_) = kind else {
+    for item in &usable.format.items[..usable.format.count] {
+        let Kind::Dimension(_) = item.kind else {
             continue;
         };
-        let a = axis_of(item.letter);
-        if a < 14 {
+        if let Some(a) = axis_of(item.letter) {
             used[a] = true;
         }
     }
@@ -179,16 +126,14 @@ fn used_axes(format: Format) -> [bool; 14]
 fn place_block(block: Block, used: [bool; 14], slides: Slides) -> Block {
     let mut shown = block;
     let mut count: usize = 0;
-    let mut a: usize = 0;
-    while a < 14 {
+    for (a, letter) in AXES.iter().enumerate() {
         if used[a] {
             shown.words[count] = Word {
-                letter: AXES[a],
+                letter: *letter,
                 value: Value::Dimension(slides.places[a]),
             };
             count += 1;
         }
-        a += 1;
     }
     shown.count = count;
     shown
@@ -197,102 +142,63 @@ fn place_block(block: Block, used: [bool; 14], slides: Slides) -> Block {
 // The line of a block, with the places of the axes behind it.
 fn write_line<W: Write>(
     writer: &mut W,
-    format: Format,
+    usable: Usable,
     block: Block,
     used: [bool; 14],
     slides: Slides,
-    out: &mut [u8],
-) -> io::Result<()>
-    requires facts { Facts format }
-    requires in_bounds { 786 ≤ length out.old }
-{
+    out: &mut Output,
+) -> io::Result<()> {
     let shown = place_block(block, used, slides);
-    let size = put_block(out, format.sequence, shown);
+    let size = put_block(&mut out[..], usable.format.sequence, shown);
     writer.write_all(&out[..size])
 }
 
 // A line for each block, a step from one to the next; and at the end their number, or the refusal.
 fn write_steps<W: Write>(
     writer: &mut W,
-    edition: u32,
-    text: &[u8],
-    profile: &[u8],
+    terms: &Terms<'_>,
     tape: &[u8],
-    format: Format,
+    usable: Usable,
     firsts: &[usize],
     asked: Asked,
-    out: &mut [u8],
-) -> io::Result<()>
-    requires facts { Facts format }
-    requires in_bounds { 786 ≤ length out.old }
-{
-    let used = used_axes(format);
-    let travel = asked.travel;
+    out: &mut Output,
+) -> io::Result<()> {
+    let used = used_axes(usable);
     let mut slides = Slides {
         places: [0; 14],
         increments: false,
     };
-    let mut n: usize = 0;
-    while n < firsts.len() {
-        let entry = find_entry(tape, format, firsts, n);
-        let block = entry.block;
-        let answer = slides::step(
-            edition,
-            text,
-            profile,
-            tape,
-            firsts,
-            n,
-            slides,
-            travel,
-            asked.slashed,
-        );
-        let outcome = answer.outcome;
-        if let Checked::Refused(r) = outcome {
-            return write_last(writer, Counted::Refused(r), out);
-        }
-        slides = answer.slides;
-        write_line(writer, format, block, used, slides, out)?;
-        n += 1;
+    for n in 0..firsts.len() {
+        slides = match slides::step(terms, tape, firsts, n, slides, asked.travel, asked.slashed) {
+            Ok(next) => next,
+            Err(r) => return write_last(writer, Err(Said::from(r)), &mut out[..]),
+        };
+        // A block that was followed is there.
+        let Ok(entry) = find_entry(tape, usable, firsts, n) else {
+            return Ok(());
+        };
+        write_line(writer, usable, entry.block, used, slides, out)?;
     }
-    write_last(writer, Counted::Blocks(n), out)
+    write_last(writer, Ok(firsts.len()), &mut out[..])
 }
 
 // The blocks of a tape that was judged, by its index.
 fn follow_tape<W: Write>(
     writer: &mut W,
-    edition: u32,
-    text: &[u8],
-    profile: &[u8],
+    terms: &Terms<'_>,
     tape: &[u8],
     asked: Asked,
-    out: &mut [u8],
-) -> io::Result<()>
-    requires { 786 ≤ length out.old }
-{
+    out: &mut Output,
+) -> io::Result<()> {
     let mut firsts = [0usize; BLOCKS];
     let mut numbers = [0u64; BLOCKS];
-    let parsed = profile::parse(edition, text, profile);
-    let outcome = parsed.outcome;
-    let format = parsed.format;
-    let Checked::Clean = outcome else {
+    let Ok(usable) = profile::parse(terms) else {
         return Ok(());
     };
-    let built = build_under(tape, format, &mut firsts, &mut numbers);
-    let Counted::Blocks(c) = built else {
-        return write_last(writer, built, out);
-    };
-    write_steps(
-        writer,
-        edition,
-        text,
-        profile,
-        tape,
-        format,
-        &firsts[..c],
-        asked,
-        out,
-    )
+    match build_under(tape, usable, &mut firsts, &mut numbers) {
+        Ok(c) => write_steps(writer, terms, tape, usable, &firsts[..c], asked, out),
+        Err(r) => write_last(writer, Err(Said::from(r)), &mut out[..]),
+    }
 }
 
 // Standard input, with what the arguments ask for.
@@ -300,38 +206,33 @@ fn follow_input<W: Write>(
     writer: &mut W,
     input: &[u8],
     profile: &[u8],
-    given: Given,
+    travel: Option<Travel>,
     slashed: bool,
-    out: &mut [u8],
-) -> io::Result<()>
-    requires { 786 ≤ length out.old }
-{
-    if !given.good {
-        let wrong = Refusal {
-            number: 1,
-            place: 0,
-        };
-        return write_last(writer, Counted::Refused(wrong), out);
-    }
-    let header = read_header(input);
-    let from = header.from;
-    let to = header.to;
-    let rows = header.rows;
-    let edition = header.edition;
-    let text = &input[from..to];
-    let tape = &input[rows..];
-    let count = count_listed(edition, text, profile, tape);
-    let Counted::Blocks(_) = count else {
-        return write_last(writer, count, out);
+    out: &mut Output,
+) -> io::Result<()> {
+    let wrong = Err(Said::from(Cause::Edition.at(0)));
+    let Some(travel) = travel else {
+        return write_last(writer, wrong, &mut out[..]);
     };
-    let travel = given.travel;
+    let Ok(header) = read_header(input) else {
+        return write_last(writer, wrong, &mut out[..]);
+    };
+    let terms = Terms {
+        edition: header.edition,
+        shorthand: &input[header.from..header.to],
+        profile,
+    };
+    let tape = &input[header.rows..];
+    if let Err(r) = count_listed(&terms, tape) {
+        return write_last(writer, Err(Said::from(r)), &mut out[..]);
+    }
     let asked = Asked { slashed, travel };
-    follow_tape(writer, edition, text, profile, tape, asked, out)
+    follow_tape(writer, &terms, tape, asked, out)
 }
 
 // Whether the second argument is "/".
 fn read_switch(rt: &impl Env) -> bool {
-    let mut argument = argument_space();
+    let mut argument = space::<ARGUMENT>();
     match rt.arg(2, &mut argument) {
         Ok(n) => n == 1 && argument[0] == b'/',
         Err(_) => false,
@@ -339,24 +240,24 @@ fn read_switch(rt: &impl Env) -> bool {
 }
 
 // The third argument; one that is too long is in no form.
-fn read_third(rt: &impl Env) -> Given {
-    let mut argument = travel_space();
+fn read_third(rt: &impl Env) -> Option<Travel> {
+    let mut argument = space::<TRAVEL>();
     match rt.arg(3, &mut argument) {
         Ok(n) => read_travel(&argument[..n]),
         Err(FillError::NotPresent) => read_travel(b""),
-        Err(FillError::TooLong) => read_travel(b","),
+        Err(FillError::TooLong) => None,
     }
 }
 
 fn main(rt: HostRuntime) -> io::Result<()> {
-    let mut space = input_space();
-    let mut argument = argument_space();
-    let mut out = output_space();
+    let mut input = space::<INPUT>();
+    let mut argument = space::<ARGUMENT>();
+    let mut out: Output = space();
     let size = read_profile(&rt, &mut argument);
     let slashed = read_switch(&rt);
-    let given = read_third(&rt);
-    let n = read_input(&mut rt.stdin(), &mut space)?;
-    let input = &space[..n];
+    let travel = read_third(&rt);
+    let n = read_input(&mut rt.stdin(), &mut input)?;
+    let input = &input[..n];
     let profile = &argument[..size];
-    follow_input(&mut rt.stdout(), input, profile, given, slashed, &mut out)
+    follow_input(&mut rt.stdout(), input, profile, travel, slashed, &mut out)
 }

@@ -9,8 +9,8 @@ use native.Mathlib.Omega.{arith}
 use lib.Dec.{eqb, leb}
 use lib.ListN.{length, take, drop, length-append, length-drop, length-map, take-append-drop}
 use lib.Seq.{length-take-le, take-length}
-use borrow.Author.Tests.{leb-true, leb-false, eqb-true, eq-eqb, le-leb, lt-leb}
-use Rattle.rows.specs.Answer.{Answer, taken, refused, ◌>>=◌, ◌>>◌}
+use borrow.Author.Tests.{leb-true, leb-false, eqb-true}
+use Rattle.rows.specs.Answer.{taken, ◌>>◌}
 use Rattle.rows.specs.Kept.{kept_from}
 use Rattle.rows.specs.Passes.{Every, Passes}
 use Rattle.rows.specs.Stages.{limit}
@@ -20,7 +20,7 @@ use Rattle.rows.proofs.TapesJoined.{passes_append, kept_append}
 use Rattle.shorthand.specs.declared.Format.{Format}
 use Rattle.shorthand.specs.Facts.{Facts}
 use Rattle.reading.specs.declared.Block.{Block}
-use Rattle.reading.specs.Parse.{Entry}
+use Rattle.reading.specs.declared.Entry.{Entry}
 use Rattle.reading.specs.Answers.{read}
 use Rattle.reading.specs.Survey.{Surveyed, surveyed}
 use Rattle.reading.proofs.Outcomes.{never}
@@ -32,11 +32,10 @@ use Rattle.punching.specs.Rows.{row_of, block_chars, rows_of, cleared}
 use Rattle.punching.specs.Fits.{unless, record_fits}
 use Rattle.punching.specs.Answers.{measured_for}
 use Rattle.punching.proofs.Measures.{measured-fit}
-use Rattle.punching.proofs.PunchedRows.{punched-formed, punched-pass}
+use Rattle.punching.proofs.PunchedRows.{punched-pass}
 use Rattle.punching.proofs.PunchedTapes.{punched-bare, punched-entry}
 use Rattle.index.specs.Index.{index_room}
 use Rattle.index.proofs.Indexing.{room-both}
-use Rattle.images.specs.declared.Plan.{Plan}
 use Rattle.images.specs.declared.Site.{Site}
 use Rattle.images.specs.Images.{is_blank, blanks, sited_after, sited, Append, append_for, pasted, buffer_grown}
 use Rattle.images.proofs.Pasting.{pasted-within, pasted-behind}

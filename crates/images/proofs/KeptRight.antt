@@ -1,16 +1,15 @@
 -- The index stays right: one entry more for an appended block, and fewer blocks to an index that has more.
-use Prim.Native.Nat.{ℕ, zero, suc, ◌+◌, ◌≤◌, ◌<◌}
+use Prim.Native.Nat.{ℕ, zero, suc, ◌≤◌, ◌<◌}
 use mathlib.Core.Path.{◌≡◌, refl, sym, ap, ◌∙◌}
 use mathlib.Core.Bool.{Bool, true, false, cond}
 use mathlib.Core.List.{List, [], ◌∷◌, ◌++◌, map, map-append}
 use native.Mathlib.Numerals.{add-one}
-use native.Mathlib.Omega.{arith}
 use lib.ListN.{length, take, set, length-append}
 use lib.Seq.{length-take-le, take-suc-set, take-take}
 use Rattle.reading.specs.declared.Block.{Block}
-use Rattle.reading.specs.Parse.{Entry}
+use Rattle.reading.specs.declared.Entry.{Entry}
 use Rattle.punching.specs.Rows.{cleared}
-use Rattle.index.specs.Index.{marked, number_in, firsts_of, numbers_of, Indexes}
+use Rattle.index.specs.Index.{marked, number_in, Indexes}
 
 -- what is cleared of a record is no part of its number
 pub number-cleared : (b : Block) → number_in (cleared b) ≡ number_in b

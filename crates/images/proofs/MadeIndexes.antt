@@ -1,36 +1,32 @@
 -- An index that these operations made for an image is the index of its blocks, and what is found through it is what the plain walk finds.
-use Prim.Native.Nat.{ℕ, suc, ◌+◌, ◌-◌, ◌≤◌, ◌<◌}
+use Prim.Native.Nat.{ℕ, suc, ◌-◌, ◌≤◌, ◌<◌}
 use mathlib.Core.Path.{◌≡◌, refl, sym, ap, ◌∙◌, subst}
-use mathlib.Core.Bool.{Bool, true, false, ◌&&◌, cond}
 use mathlib.Core.List.{List, [], ◌∷◌, ◌++◌, map-append}
 use native.Mathlib.Numerals.{add-one}
 use native.Mathlib.Omega.{arith}
-use lib.Dec.{leb}
-use lib.ListN.{length, take, drop, length-append, length-map, length-take}
+use lib.ListN.{length, take, length-append, length-map, length-take}
 use lib.Seq.{length-take-le, take_at}
-use Rattle.rows.specs.Answer.{Answer, taken, refused, ◌>>=◌, ◌>>◌}
+use Rattle.rows.specs.Answer.{taken, ◌>>◌}
 use Rattle.shorthand.specs.declared.Format.{Format}
-use Rattle.shorthand.specs.Facts.{Facts}
 use Rattle.profile.specs.Answers.{agreed}
 use Rattle.profile.proofs.Settling.{agreed-facts}
 use Rattle.reading.specs.declared.Block.{Block}
 use Rattle.reading.specs.Relation.{TapeOf}
-use Rattle.reading.specs.Parse.{Entry}
+use Rattle.reading.specs.declared.Entry.{Entry}
 use Rattle.reading.specs.Answers.{read, read_under, block_numbered, rows_numbered}
 use Rattle.reading.specs.Survey.{Surveyed}
-use Rattle.reading.proofs.Outcomes.{never}
-use Rattle.reading.proofs.Programs.{blocks_of, from-taken, both-taken, tape-read, read-tape}
+use Rattle.reading.proofs.Programs.{from-taken, both-taken, tape-read, read-tape}
 use Rattle.reading.proofs.Surveys.{survey-taken}
 use Rattle.punching.specs.Rows.{cleared}
 use Rattle.punching.specs.Answers.{after}
 use Rattle.index.specs.Index.{number_in, firsts_of, numbers_of, Indexes, index_room, indexed_for, indexed, laid}
 use Rattle.index.specs.Finding.{block_found, rows_found, number_found, first_numbered}
 use Rattle.index.proofs.Lookups.{block, rows, number}
-use Rattle.images.specs.Images.{Append, append_for, appended, buffer_grown, firsts_grown, numbers_grown, last_for, last_taken, overpunched, buffer_shrunk}
+use Rattle.images.specs.Images.{Append, append_for, appended, firsts_grown, numbers_grown, last_for, last_taken, overpunched}
 use Rattle.images.specs.Made.{Made, built, grown, shrunk}
 use Rattle.images.proofs.Pasting.{image-rows}
-use Rattle.images.proofs.Grown.{Appends, append-taken, new_entry, image_grown, read-grown}
-use Rattle.images.proofs.Shrunk.{Last, last_taken_lem, image_shrunk, image-less, read-less}
+use Rattle.images.proofs.Grown.{append-taken, new_entry, image_grown, read-grown}
+use Rattle.images.proofs.Shrunk.{last_taken_lem, image_shrunk, image-less, read-less}
 use Rattle.images.proofs.KeptRight.{number-cleared, take-map, index-more, index-fewer}
 
 -- these are the blocks of the image, and the arrays index them

@@ -5,8 +5,8 @@ use mathlib.Core.Logic.{◌⊎◌, inl, inr}
 use mathlib.Core.List.{List, ◌++◌}
 use native.Mathlib.Decide.{dec_le}
 use native.Mathlib.Omega.{arith}
-use lib.ListN.{length, get_or, take, drop, length-append, length-drop, get_or-append}
-use lib.Seq.{length-take-le, take_all, take-length, take_at, take-append-add, take-take, drop-drop, get_or-take, get_or-drop, get_or-append-add}
+use lib.ListN.{length, get_or, take, drop, get_or-append}
+use lib.Seq.{length-take-le, take_all, take-length, take_at, take-append-add, take-take, get_or-take, get_or-drop, get_or-append-add}
 use Rattle.index.proofs.Slices.{drop-take}
 use Rattle.images.specs.Images.{pasted}
 

@@ -1,5 +1,5 @@
 -- A block that was appended, taken off and punched again fits where its rows stood.
-use Prim.Native.Nat.{ℕ, suc, ◌+◌, ◌-◌, ◌≤◌}
+use Prim.Native.Nat.{ℕ, ◌+◌, ◌-◌, ◌≤◌}
 use mathlib.Core.Path.{◌≡◌, sym, ap, ◌∙◌}
 use mathlib.Core.Logic.{⊎_elim}
 use mathlib.Core.List.{List, [], ◌∷◌, ◌++◌}
@@ -12,7 +12,7 @@ use Rattle.shorthand.specs.declared.Format.{Format}
 use Rattle.shorthand.specs.Facts.{Facts}
 use Rattle.reading.specs.declared.Block.{Block}
 use Rattle.reading.specs.declared.Part.{Part}
-use Rattle.reading.specs.Parse.{Entry}
+use Rattle.reading.specs.declared.Entry.{Entry}
 use Rattle.reading.specs.Answers.{nowhere}
 use Rattle.reading.specs.Front.{part_of}
 use Rattle.reading.specs.Survey.{Surveyed}
@@ -21,8 +21,8 @@ use Rattle.punching.specs.Rows.{rows_of}
 use Rattle.punching.specs.Answers.{measured_for}
 use Rattle.index.specs.Index.{index_room}
 use Rattle.images.specs.Images.{Append, append_for, last_for, overpunched}
-use Rattle.images.proofs.Grown.{Into, After, sited-by, Appends, new_entry, image_grown, read-grown}
-use Rattle.images.proofs.Shrunk.{Last, last_taken_lem, fits-again}
+use Rattle.images.proofs.Grown.{sited-by, Appends, new_entry, image_grown, read-grown}
+use Rattle.images.proofs.Shrunk.{last_taken_lem, fits-again}
 
 module _ {f : Format} (facts : Facts f) {t : List ℕ} (buffer : List ℕ) (image : take (length t) buffer ≡ t) (within : length t ≤ length buffer) {firsts numbers : ℕ} {b : Block} {a : Append}
     (h : Appends f t (length buffer) firsts numbers b a) where

@@ -5,20 +5,19 @@ use mathlib.Core.List.{List, [], ◌∷◌}
 use native.Mathlib.Nat.{le_refl}
 use native.Mathlib.Omega.{arith}
 use lib.ListN.{length}
-use Rattle.rows.specs.Answer.{taken, refused, void}
+use Rattle.rows.specs.Answer.{Answer, taken, refused}
 use Rattle.rows.specs.Stages.{limit}
 use Rattle.rows.proofs.Judged.{clean-passes}
 use Rattle.shorthand.specs.declared.Format.{Format}
 use Rattle.reading.specs.declared.Part.{Part}
-use Rattle.reading.specs.Parse.{Entry}
+use Rattle.reading.specs.declared.Entry.{Entry}
 use Rattle.reading.specs.Answers.{nowhere, read, size_of}
 use Rattle.reading.specs.Survey.{no_rows, last_part, Surveyed, surveyed, last_in}
 use Rattle.reading.proofs.Programs.{from-taken}
-use Rattle.reading.proofs.Surveys.{last_entry, survey-taken, survey-read, survey-unread}
+use Rattle.reading.proofs.Surveys.{last_entry, survey-taken, survey-read}
 use Rattle.reading.proofs.Places.{places}
 use Rattle.reading.proofs.BlockWalk.{enters-at}
 use Rattle.reading.proofs.Accepted.{read_taken, few-blocks}
-use Rattle.reading.proofs.Numbered.{refused-void, void-map}
 
 -- part of a tape
 abbrev Within : List ℕ → Part → Type 0
@@ -55,13 +54,18 @@ module _ (f : Format) (t : List ℕ) where
       }
 
   -- of a tape that is read n blocks are counted, and the last is told
-  pub survey-told : (n : ℕ) (p : Part) → size_of (read f t) ≡ taken n → p ≡ last_in (surveyed f t) → SurveyTold f t n p
+  pub survey-told : (n : ℕ) (p : Part) → taken n ≡ size_of (read f t) → taken p ≡ last_in (surveyed f t) → SurveyTold f t n p
   survey-told n p e q =
-      let r = from-taken (read f t) (λ es. taken (length es)) n e in
+      let r = from-taken (read f t) (λ es. taken (length es)) n (sym e) in
       let h = survey-read f t r.1 in
       let size : length r.0 ≡ n = let z = r.2 in cc in
-      record { survey = h.0; surveys = h.1; seen = seen h.0 h.1; many = sym (ap length h.2 ∙ size); ended = q ∙ ap last_in h.1 }
+      let end : p ≡ h.0.last = let z = q ∙ ap last_in h.1 in cc in
+      record { survey = h.0; surveys = h.1; seen = seen h.0 h.1; many = sym (ap length h.2 ∙ size); ended = end }
 
   -- a tape that is refused is not surveyed
-  pub survey-refused : (n p : ℕ) → size_of (read f t) ≡ refused n p → surveyed f t ≡ refused n p
-  survey-refused n p e = survey-unread f t n p (refused-void (read f t) n p (sym (void-map {B = ℕ} length (read f t)) ∙ ap void e))
+  pub survey-refused : (n p : ℕ) → refused n p ≡ last_in (surveyed f t) → surveyed f t ≡ refused n p
+  survey-refused n p e = by (surveyed f t) e
+    where
+      by : (a : Answer Surveyed) → refused n p ≡ last_in a → a ≡ refused n p
+      by (taken x) q = let z : ◌≡◌ {A = ℕ} 0 1 = cc in absurd (omega (arith, z))
+      by (refused m k) q = let i : m ≡ n = cc in let j : k ≡ p = cc in rw (i, j)

@@ -1,6 +1,6 @@
 -- A block appended to an image and the last one taken off, with the index of the image's blocks (document 02, 7/12). The image is the first rows of a lent buffer.
 use Rattle.std.specs.Prelude.{ℕ, suc, ◌+◌, ◌-◌, Bool, ◌||◌, cond, List, [], ◌∷◌, ◌++◌, eqb, leb, ltb, length, take, drop, set, replicate}
-use Rattle.rows.specs.Answer.{Answer, taken, refused, refusal, ◌>>=◌, ◌>>◌}
+use Rattle.rows.specs.Answer.{Answer, taken, refused, ◌>>=◌, ◌>>◌}
 use Rattle.rows.specs.Stages.{limit}
 use Rattle.shorthand.specs.declared.Format.{Format}
 use Rattle.profile.specs.Answers.{agreed}
@@ -12,11 +12,7 @@ use Rattle.punching.specs.Fits.{unless}
 use Rattle.punching.specs.Answers.{measured_for}
 use Rattle.index.specs.Index.{number_in, index_room}
 use Rattle.images.specs.declared.Image.{Image}
-use Rattle.images.specs.declared.Plan.{Plan}
-use Rattle.images.specs.declared.Planned.{Planned}
 use Rattle.images.specs.declared.Site.{Site}
-use Rattle.images.specs.declared.Sited.{Sited}
-use Rattle.images.specs.declared.Updated.{Updated}
 
 -- ---- where a block's rows go
 
@@ -40,6 +36,14 @@ sited t from capacity n = cond (leb n (blanks (drop from t))) (taken (record { a
 
 -- ---- a block appended
 
+-- what is to be done: the blocks so far, the first row of the new one, where its rows go, how many they are, and how many rows the image has then
+pub record Plan : Type 0 where
+  pub blocks : ℕ
+  pub first : ℕ
+  pub at : ℕ
+  pub size : ℕ
+  pub rows : ℕ
+
 -- what is to be done, and the rows that are punched
 pub record Append : Type 0 where
   pub plan : Plan
@@ -53,6 +57,13 @@ append_for f t capacity firsts numbers b =
 
 unfoldable pub appended : ℕ → List ℕ → List ℕ → List ℕ → ℕ → ℕ → ℕ → Block → Answer Append
 appended e s p t capacity firsts numbers b = agreed e s p >>= λ f. append_for f t capacity firsts numbers b
+
+-- the same for the first rows of a buffer, and for arrays that are lent
+abbrev pub append_in : Format → List ℕ → ℕ → List ℕ → List ℕ → Block → Answer Append
+append_in f buffer rows firsts numbers b = append_for f (take rows buffer) (length buffer) (length firsts) (length numbers) b
+
+abbrev pub appended_in : ℕ → List ℕ → List ℕ → List ℕ → ℕ → List ℕ → List ℕ → Block → Answer Append
+appended_in e s p buffer rows firsts numbers b = appended e s p (take rows buffer) (length buffer) (length firsts) (length numbers) b
 
 -- the rows and blocks of the image then
 abbrev pub grown : Answer Append → Answer Image
@@ -95,20 +106,3 @@ overpunched buffer x = pasted buffer x.from (replicate (x.to - x.from) 255)
 abbrev pub buffer_shrunk : List ℕ → Answer Surveyed → List ℕ
 buffer_shrunk buffer (taken x) = overpunched buffer x.last
 buffer_shrunk buffer (refused n p) = buffer
-
--- ---- what each case of an answer says
-
-abbrev pub planned : Answer Append → Answer Plan
-planned a = a >>= λ x. taken x.plan
-
-abbrev pub planned_told : Planned → Answer Plan
-planned_told (Planned.At p) = taken p
-planned_told (Planned.Refused r) = refusal r
-
-abbrev pub sited_told : Sited → Answer Site
-sited_told (Sited.At s) = taken s
-sited_told (Sited.Refused r) = refusal r
-
-abbrev pub updated_told : Updated → Answer Image
-updated_told (Updated.To i) = taken i
-updated_told (Updated.Refused r) = refusal r

@@ -2,7 +2,7 @@
 use Rattle.std.specs.Prelude.{ℕ, suc, ◌-◌, ◌≡◌, List, length, take}
 use Rattle.rows.specs.Answer.{taken}
 use Rattle.reading.specs.declared.Block.{Block}
-use Rattle.reading.specs.Parse.{Entry}
+use Rattle.reading.specs.declared.Entry.{Entry}
 use Rattle.reading.specs.Survey.{Surveyed}
 use Rattle.punching.specs.Answers.{after}
 use Rattle.index.specs.Index.{firsts_of, numbers_of, indexed, laid}

@@ -1,33 +1,27 @@
-// Images that grow and shrink: a block appended to the image of a tape, the last one taken off, and the index of its blocks kept with it. The image is the first
-// rows of a lent buffer; all of it where it has fewer.
+// Images that grow and shrink: a block appended to the image of a tape, the last one taken off, and the index of its blocks kept with it. The image is the
+// first rows of a lent buffer; all of it where it has fewer.
 #![tactic(auto)]
 
 ghost use Rattle.std.specs.Prelude.{◌≡◌, ◌≤◌, length, take, replicate};
-ghost use Rattle.shorthand.specs.Facts.{Facts};
-ghost use Rattle.images.specs.Images.{append_for, appended, grown, buffer_grown, firsts_grown, numbers_grown, last_for, last_taken, shrunk, buffer_shrunk, updated_told};
+ghost use Rattle.rows.specs.Answer.{told};
+ghost use Rattle.images.specs.Images.{append_in, appended_in, grown, buffer_grown, firsts_grown, numbers_grown, last_for, last_taken, shrunk, buffer_shrunk};
 
 mod sites;
 
-use index::building::mark_number;
-use index::finding::at_most;
-use punching::write_under;
+use index::building::{judge_room, mark_number};
+use profile::Terms;
+use punching::{measure_under, write_under};
+use reading::Block;
 use reading::walk::survey_tape;
-use reading::{Block, Counted};
-use rows::{Checked, Refusal};
-use shorthand::Format;
-use sites::judge_append;
+use rows::{Cause, Refusal};
+use shorthand::Usable;
+use sites::find_site;
 
-// How many rows an image has now, and how many blocks.
+// How many rows an image has now, and how many blocks: the rows stand in a lent buffer, with no heap.
 #[derive(Clone, Copy)]
 pub struct Image {
     pub rows: usize,
     pub blocks: usize,
-}
-
-#[derive(Clone, Copy)]
-pub enum Updated {
-    To(Image),
-    Refused(Refusal),
 }
 
 // Where rows go in an image, and how many rows it has then.
@@ -37,153 +31,92 @@ pub struct Site {
     pub rows: usize,
 }
 
-#[derive(Clone, Copy)]
-pub enum Sited {
-    At(Site),
-    Refused(Refusal),
-}
-
-// What an append has to do: the blocks so far, the first row of the new one, where its rows go, how many they are, and how many rows the image has then.
-#[derive(Clone, Copy)]
-pub struct Plan {
-    pub blocks: usize,
-    pub first: usize,
-    pub at: usize,
-    pub size: usize,
-    pub rows: usize,
-}
-
-#[derive(Clone, Copy)]
-pub enum Planned {
-    At(Plan),
-    Refused(Refusal),
-}
-
-// A block appended under a Format: nothing is written before every refusal is excluded.
+// A block appended under a Format: one walk judges the image, no row is made, and nothing is written before every refusal is excluded.
 fn append_under(
-    format: Format,
+    usable: Usable,
     image: &mut [u8],
     rows: usize,
     firsts: &mut [usize],
     numbers: &mut [u64],
     block: Block,
-) -> Updated
-    requires facts { Facts format }
+) -> Result<Image, Refusal>
     requires rows_in_bounds { rows ≤ length image.old }
-    ensures image { updated_told result ≡ grown (append_for format (take rows image.old) (length image.old) (length firsts.old) (length numbers.old) block) }
-    ensures buffer { image.new ≡ buffer_grown image.old (append_for format (take rows image.old) (length image.old) (length firsts.old) (length numbers.old) block) }
-    ensures firsts { firsts.new ≡ firsts_grown firsts.old (append_for format (take rows image.old) (length image.old) (length firsts.old) (length numbers.old) block) }
-    ensures numbers { numbers.new ≡ numbers_grown numbers.old block (append_for format (take rows image.old) (length image.old) (length firsts.old) (length numbers.old) block) }
+    ensures image { told result ≡ grown (append_in usable.format image.old rows firsts.old numbers.old block) }
+    ensures buffer { image.new ≡ buffer_grown image.old (append_in usable.format image.old rows firsts.old numbers.old block) }
+    ensures firsts { firsts.new ≡ firsts_grown firsts.old (append_in usable.format image.old rows firsts.old numbers.old block) }
+    ensures numbers { numbers.new ≡ numbers_grown numbers.old block (append_in usable.format image.old rows firsts.old numbers.old block) }
 {
     let capacity = image.len();
-    let plan = match judge_append(
-        &image[..rows],
-        format,
-        block,
-        capacity,
-        firsts.len(),
-        numbers.len(),
-    ) {
-        Planned::At(p) => p,
-        Planned::Refused(r) => {
-            return Updated::Refused(r);
-        }
-    };
-    let at = plan.at;
-    let end = at + plan.size;
-    let n = plan.blocks;
-    write_under(format, block, &mut image[at..end]);
-    firsts[n] = plan.first;
+    let survey = survey_tape(&image[..rows], usable, 0)?;
+    let n = survey.count;
+    let first = survey.last.to;
+    let size = measure_under(usable, block)?;
+    judge_room(n + 1, firsts.len(), numbers.len())?;
+    let site = find_site(&image[..rows], first, capacity, size)?;
+    let at = site.at;
+    let end = at + size;
+    write_under(usable, block, &mut image[at..end])?;
+    firsts[n] = first;
     numbers[n] = mark_number(block.numbered, block.sequence);
-    Updated::To(Image {
-        rows: plan.rows,
+    Ok(Image {
+        rows: site.rows,
         blocks: n + 1,
     })
 }
 
 // A block appended to an image of so many rows, and its entry to the index.
+#[tactic(auto, using(std::proofs::lemmas::List::take_min), unfolding(crate::specs::Images::appended))]
 pub fn append_block(
-    edition: u32,
-    text: &[u8],
-    profile: &[u8],
+    terms: &Terms<'_>,
     image: &mut [u8],
     rows: usize,
     firsts: &mut [usize],
     numbers: &mut [u64],
     block: Block,
-) -> Updated
-    ensures image { updated_told result ≡ grown (appended edition text.now profile.now (take rows image.old) (length image.old) (length firsts.old) (length numbers.old) block) }
-    ensures buffer { image.new ≡ buffer_grown image.old (appended edition text.now profile.now (take rows image.old) (length image.old) (length firsts.old) (length numbers.old) block) }
-    ensures firsts { firsts.new ≡ firsts_grown firsts.old (appended edition text.now profile.now (take rows image.old) (length image.old) (length firsts.old) (length numbers.old) block) }
-    ensures numbers { numbers.new ≡ numbers_grown numbers.old block (appended edition text.now profile.now (take rows image.old) (length image.old) (length firsts.old) (length numbers.old) block) }
+) -> Result<Image, Refusal>
+    ensures image { told result ≡ grown (appended_in terms.now.edition terms.now.shorthand.now terms.now.profile.now image.old rows firsts.old numbers.old block) }
+    ensures buffer { image.new ≡ buffer_grown image.old (appended_in terms.now.edition terms.now.shorthand.now terms.now.profile.now image.old rows firsts.old numbers.old block) }
+    ensures firsts { firsts.new ≡ firsts_grown firsts.old (appended_in terms.now.edition terms.now.shorthand.now terms.now.profile.now image.old rows firsts.old numbers.old block) }
+    ensures numbers { numbers.new ≡ numbers_grown numbers.old block (appended_in terms.now.edition terms.now.shorthand.now terms.now.profile.now image.old rows firsts.old numbers.old block) }
 {
-    let parsed = profile::parse(edition, text, profile);
-    let outcome = parsed.outcome;
-    let format = parsed.format;
-    match outcome {
-        Checked::Clean => {
-            let within = at_most(rows, image.len());
-            append_under(format, image, within, firsts, numbers, block)
-        }
-        Checked::Refused(r) => Updated::Refused(r),
-    }
+    let usable = profile::parse(terms)?;
+    let within = rows.min(image.len());
+    append_under(usable, image, within, firsts, numbers, block)
 }
 
 // Every row overpunched to DEL.
 pub fn rub_out(part: &mut [u8])
     ensures { part.new ≡ replicate (length part.old) 255 }
 {
-    let mut at: usize = 0;
-    while at < part.len() {
-        part[at] = 255;
-        at += 1;
-    }
+    part.fill(255);
 }
 
 // The last block taken off under a Format.
-fn take_off_under(format: Format, image: &mut [u8], rows: usize) -> Updated
-    requires facts { Facts format }
+fn take_off_under(usable: Usable, image: &mut [u8], rows: usize) -> Result<Image, Refusal>
     requires rows_in_bounds { rows ≤ length image.old }
-    ensures image { updated_told result ≡ shrunk (take rows image.old) (last_for format (take rows image.old)) }
-    ensures buffer { image.new ≡ buffer_shrunk image.old (last_for format (take rows image.old)) }
+    ensures image { told result ≡ shrunk (take rows image.old) (last_for usable.format (take rows image.old)) }
+    ensures buffer { image.new ≡ buffer_shrunk image.old (last_for usable.format (take rows image.old)) }
 {
-    let survey = survey_tape(&image[..rows], format, 0);
-    let count = survey.count;
-    let last = survey.last;
-    let blocks = match count {
-        Counted::Blocks(n) => n,
-        Counted::Refused(r) => {
-            return Updated::Refused(r);
-        }
-    };
-    if blocks == 0 {
-        return Updated::Refused(Refusal {
-            number: 15,
-            place: 0,
-        });
+    let survey = survey_tape(&image[..rows], usable, 0)?;
+    if survey.count == 0 {
+        return Err(Cause::NoBlock.at(0));
     }
-    let from = last.from;
-    let to = last.to;
+    let from = survey.last.from;
+    let to = survey.last.to;
     rub_out(&mut image[from..to]);
-    Updated::To(Image {
+    Ok(Image {
         rows,
-        blocks: blocks - 1,
+        blocks: survey.count - 1,
     })
 }
 
 // The last block of an image of so many rows taken off: its rows become DEL, and its entry of the index is not looked at any more.
-pub fn take_off(edition: u32, text: &[u8], profile: &[u8], image: &mut [u8], rows: usize) -> Updated
-    ensures image { updated_told result ≡ shrunk (take rows image.old) (last_taken edition text.now profile.now (take rows image.old)) }
-    ensures buffer { image.new ≡ buffer_shrunk image.old (last_taken edition text.now profile.now (take rows image.old)) }
+#[tactic(auto, using(std::proofs::lemmas::List::take_min), unfolding(crate::specs::Images::last_taken))]
+pub fn take_off(terms: &Terms<'_>, image: &mut [u8], rows: usize) -> Result<Image, Refusal>
+    ensures image { told result ≡ shrunk (take rows image.old) (last_taken terms.now.edition terms.now.shorthand.now terms.now.profile.now (take rows image.old)) }
+    ensures buffer { image.new ≡ buffer_shrunk image.old (last_taken terms.now.edition terms.now.shorthand.now terms.now.profile.now (take rows image.old)) }
 {
-    let settled = profile::parse(edition, text, profile);
-    let outcome = settled.outcome;
-    let format = settled.format;
-    match outcome {
-        Checked::Clean => {
-            let kept = at_most(rows, image.len());
-            take_off_under(format, image, kept)
-        }
-        Checked::Refused(refusal) => Updated::Refused(refusal),
-    }
+    let agreed = profile::parse(terms)?;
+    let kept = rows.min(image.len());
+    take_off_under(agreed, image, kept)
 }

@@ -1,40 +1,30 @@
--- What is found of an entry through an index: by each test, under an edition, a shorthand and a profile, and where its rows stand.
-use mathlib.Core.Path.{◌≡◌, refl}
+-- What is found of an entry through an index: by each test, and where its rows stand.
+use mathlib.Core.Path.{◌≡◌, refl, sym}
 use mathlib.Core.Bool.{Bool, true, false, cond}
 use mathlib.Core.List.{List}
-use Prim.Native.Nat.{ℕ, ◌+◌, ◌≤◌, ◌<◌}
+use Prim.Native.Nat.{ℕ, ◌≤◌, ◌<◌}
 use native.Mathlib.Omega.{arith}
 use lib.Dec.{ltb}
 use lib.ListN.{length, get_or, drop}
 use borrow.Author.Tests.{lt-ltb, le-ltb}
-use Rattle.rows.specs.Answer.{Answer, taken, refused, told, void, value_or, ◌>>=◌, ◌>>◌}
+use Rattle.rows.specs.Answer.{Answer, taken, refused, value_or, ◌>>=◌, ◌>>◌}
 use Rattle.rows.specs.Kept.{kept_at}
 use Rattle.rows.specs.Stages.{limit, judged}
 use Rattle.shorthand.specs.declared.Format.{Format}
-use Rattle.shorthand.specs.Layout.{empty_format}
 use Rattle.profile.specs.Answers.{agreed}
 use Rattle.words.specs.Figures.{Behind}
-use Rattle.reading.specs.declared.EntryAnswer.{EntryAnswer}
-use Rattle.reading.specs.Parse.{BlockRead, Entry, entry, block_at}
+use Rattle.reading.specs.declared.Entry.{Entry}
+use Rattle.reading.specs.Parse.{BlockRead, entry, block_at}
 use Rattle.reading.specs.Answers.{nowhere}
-use Rattle.reading.specs.Front.{part_of}
-use Rattle.reading.specs.Survey.{entry_from, entry_answer}
+use Rattle.reading.specs.Survey.{entry_from}
 use Rattle.reading.proofs.BlockWalk.{advances}
 use Rattle.reading.proofs.Places.{rising-at}
-use Rattle.punching.proofs.WholeRecords.{under, under-refused}
 use Rattle.index.specs.Finding.{shifted, up_to, own_entry, entry_by, entry_found}
 use Rattle.index.proofs.OwnPart.{up-to-within}
 
 -- ---- by the tests
 
 module _ (f : Format) (t : List ℕ) where
-  module _ (i : ℕ) where
-    pub own-refused : (n p : ℕ) → judged (drop i t) ≡ refused n p → own_entry f t i ≡ refused n (i + p)
-    own-refused n p e = rw e
-
-    pub own-clean : judged (drop i t) ≡ taken tt → own_entry f t i ≡ entry_from f t i
-    own-clean e = rw e
-
   module _ (firsts : List ℕ) (n : ℕ) where
     pub entry-long : limit < length t → entry_by f t firsts n ≡ refused 4 limit
     unfolding entry_by
@@ -48,25 +38,6 @@ module _ (f : Format) (t : List ℕ) where
       pub entry-own : n < length firsts → entry_by f t firsts n ≡ own_entry f (up_to t firsts n) (get_or firsts n 0)
       unfolding entry_by
       entry-own l = rw (le-ltb limit (length t) short, lt-ltb n (length firsts) l)
-
--- ---- what is handed back of an answer
-
--- the struct r, where it hands back the answer a
-pub handed-back : (r : EntryAnswer) (a : Answer Entry) → r ≡ entry_answer a
-    → (told r.outcome ≡ void a) × (r.part ≡ part_of (value_or nowhere a)) × (r.block ≡ (value_or nowhere a).block)
-handed-back r (taken x) e = rw e (refl, refl, refl)
-handed-back r (refused n p) e = rw e (refl, refl, refl)
-
--- ---- under an edition, a shorthand and a profile
-
-module _ (e : ℕ) (s p t firsts : List ℕ) (n : ℕ) where
-  pub found-under : (f : Format) → f ≡ value_or empty_format (agreed e s p) → void (agreed e s p) ≡ taken tt → entry_found e s p t firsts n ≡ entry_by f t firsts n
-  unfolding entry_found
-  found-under f q h = under (λ f. entry_by f t firsts n) e s p f q h
-
-  pub found-refused : (m k : ℕ) → void (agreed e s p) ≡ refused m k → entry_found e s p t firsts n ≡ refused m k
-  unfolding entry_found
-  found-refused m k h = under-refused (λ f. entry_by f t firsts n) e s p m k h
 
 -- ---- its rows stand within the tape
 
@@ -98,9 +69,9 @@ module _ (f : Format) (t firsts : List ℕ) (n : ℕ) where
       by false true = own-within f (up_to t firsts n) (get_or firsts n 0) (length t) (up-to-within t firsts n)
       by false false = (omega arith, omega arith)
 
-pub found_within : (e : ℕ) (s p t firsts : List ℕ) (n : ℕ) → Within (length t) (value_or nowhere (entry_found e s p t firsts n))
+pub found_within : (e : ℕ) (s p t firsts : List ℕ) (n : ℕ) (x : Entry) → taken x ≡ entry_found e s p t firsts n → Within (length t) x
 unfolding entry_found
-found_within e s p t firsts n = by (agreed e s p)
+found_within e s p t firsts n x h = rw (sym h) at (by (agreed e s p))
   where
     by : (a : Answer Format) → Within (length t) (value_or nowhere (a >>= λ f. entry_by f t firsts n))
     by (refused m k) = (omega arith, omega arith)

@@ -6,11 +6,8 @@ use Prim.Native.Nat.{ℕ, suc, ◌+◌, ◌≤◌, ◌<◌}
 use native.Mathlib.Numerals.{add-one}
 use native.Mathlib.Nat.{le_refl}
 use native.Mathlib.Omega.{arith}
-use mathlib.Core.Logic.{⊎_elim}
 use lib.ListN.{length, get_or, set, drop, length-append, length-map, length-set}
 use lib.Seq.{drop-cons, set-append_seam}
-use denote.Enum.Declared.{tag_of}
-use types.Run.{OneOf}
 use Rattle.rows.specs.Answer.{Answer, taken, refused, value_or}
 use Rattle.rows.specs.Kept.{KeptRow, kept_at}
 use Rattle.shorthand.specs.declared.Format.{Format}
@@ -22,15 +19,15 @@ use Rattle.parts.specs.Items.{item_at}
 use Rattle.steps.specs.declared.Event.{Event}
 use Rattle.steps.specs.declared.Event.TheVariants.{Finished, Opened, Out, Read, Closed}
 use Rattle.steps.specs.Steps.{Spot, Moved, between, step_at}
-use Rattle.steps.specs.contracts.Event.{the_type}
-use Rattle.reading.specs.Parse.{Entry, blocks_at}
+use Rattle.reading.specs.declared.Entry.{Entry}
+use Rattle.reading.specs.Parse.{blocks_at}
 use Rattle.reading.specs.Answers.{nowhere, read}
 use Rattle.reading.specs.Front.{Rising}
 use Rattle.reading.proofs.Accepted.{read_taken}
 use Rattle.reading.proofs.Places.{places}
 use Rattle.reading.proofs.OwnRows.{behind-head}
 use Rattle.reading.proofs.Remaining.{blocks-enough}
-use Rattle.reading.proofs.StepLaws.{more-come, Under, entry_of, open_in, open-most, effort, Walk, walk-starts, walk-rest, Further, Goes, goes}
+use Rattle.reading.proofs.StepLaws.{more-come, Under, entry_of, open_in, open-most, effort, Walk, walk-starts, walk-rest, Further, Goes, goes, halts}
 use Rattle.punching.specs.Answers.{after}
 use Rattle.index.specs.Index.{marked, number_in, firsts_of, numbers_of, entries_of}
 
@@ -128,7 +125,6 @@ module _ (len : ℕ) (f : Format) (first : ℕ) (start : List KeptRow) (firsts�
   Behind es s firsts numbers from number n v Out = On s firsts numbers from number n v
   Behind es s firsts numbers from number n v (Read w) = On s firsts numbers from number n v
   Behind es s firsts numbers from number n v (Closed lf) = Ends s firsts numbers from number n v lf
-  Behind es s firsts numbers from number n v (Event.Refused r) = ⊥
 
   module _ (es : List Entry) (left : blocks_at (length start) len f first start ≡ taken es) (room : (length es ≤ length firsts₀) × (length es ≤ length numbers₀)) where
     module _ {u : Rules} {leads : List ℕ} (h : Under f u leads) {s : Spot} {firsts numbers : List ℕ} {from number n : ℕ} (g : Fills s firsts numbers from number n) where
@@ -196,7 +192,13 @@ module _ (len : ℕ) (f : Format) (first : ℕ) (start : List KeptRow) (firsts�
             nearer = o.nearer;
           }
 
-      pub fills-on : (m : Moved) → m ≡ step_at len u leads (item_at f s.item) s → (e : Event) → m.event ≡ e → Behind es s firsts numbers from number n m.spot e
+      -- a step of an accepted tape is not refused
+      pub fills-halt : (m p : ℕ) → refused m p ≡ step_at len u leads (item_at f s.item) s → ⊥
+      fills-halt m p e =
+          let z = sym left ∙ halts len f (length start) first start h g.walk (more-come len f (length start) first start g.walk (le_refl _)) m p e in
+          let w : ◌≡◌ {A = ℕ} 0 1 = cc in omega (arith, w)
+
+      pub fills-on : (m : Moved) → taken m ≡ step_at len u leads (item_at f s.item) s → (e : Event) → m.event ≡ e → Behind es s firsts numbers from number n m.spot e
       fills-on m q e r = by e (goes len f (length start) first start h g.walk (more-come len f (length start) first start g.walk (le_refl _)) m q e r)
         where
           by : (v : Event) → Goes len f (length start) first start g.done g.begun g.words g.fuel from s m.spot v → Behind es s firsts numbers from number n m.spot v
@@ -207,19 +209,15 @@ module _ (len : ℕ) (f : Format) (first : ℕ) (start : List KeptRow) (firsts�
           by Out o = still o
           by (Read w) o = still o.0
           by (Closed lf) o = closes m.spot lf o.0 o.2
-          by (Event.Refused r) o = let z = sym left ∙ o in let w : ◌≡◌ {A = ℕ} 0 1 = cc in absurd (omega (arith, w))
 
-      -- the two events that neither open nor end a block
-      quiet : (x : ℕ) → OneOf (2 ∷ 3 ∷ []) x → (2 ≤ x) × (x ≤ 3)
-      quiet x t = ⊎_elim (λ e. (omega (arith, e), omega (arith, e))) (λ e. (omega (arith, e), omega (arith, e))) t
-
-      pub fills-quiet : (m : Moved) → m ≡ step_at len u leads (item_at f s.item) s → OneOf (2 ∷ 3 ∷ []) (tag_of the_type m.event) → On s firsts numbers from number n m.spot
-      fills-quiet m q t = by m.event (quiet _ t) (fills-on m q m.event refl)
+      -- the events that neither open nor end a block, nor the tape
+      pub fills-quiet : (m : Moved) → taken m ≡ step_at len u leads (item_at f s.item) s → (m.event ≡ Finished → ⊥) → ((b : Begun) → m.event ≡ Opened b → ⊥) → ((lf : ℕ) → m.event ≡ Closed lf → ⊥)
+          → On s firsts numbers from number n m.spot
+      fills-quiet m q unfinished unopened unclosed = by m.event refl (fills-on m q m.event refl)
         where
-          by : (v : Event) → (2 ≤ tag_of the_type v) × (tag_of the_type v ≤ 3) → Behind es s firsts numbers from number n m.spot v → On s firsts numbers from number n m.spot
-          by Finished l o = absurd (omega (arith, l))
-          by (Opened b) l o = absurd (omega (arith, l))
-          by Out l o = o
-          by (Read w) l o = o
-          by (Closed lf) l o = absurd (omega (arith, l))
-          by (Event.Refused r) l o = absurd (omega (arith, l))
+          by : (v : Event) → m.event ≡ v → Behind es s firsts numbers from number n m.spot v → On s firsts numbers from number n m.spot
+          by Finished e o = absurd (unfinished e)
+          by (Opened b) e o = absurd (unopened b e)
+          by Out e o = o
+          by (Read w) e o = o
+          by (Closed lf) e o = absurd (unclosed lf e)

@@ -10,9 +10,9 @@ use borrow.Author.Tests.{leb-true}
 use Rattle.rows.specs.Answer.{Answer, taken, refused, value_or}
 use Rattle.shorthand.specs.declared.Format.{Format}
 use Rattle.reading.specs.declared.Part.{Part}
-use Rattle.reading.specs.Parse.{Entry}
+use Rattle.reading.specs.declared.Entry.{Entry}
 use Rattle.reading.specs.Answers.{nowhere, read, size_of}
-use Rattle.reading.specs.Front.{part_in}
+use Rattle.reading.specs.Front.{part_of, part_in}
 use Rattle.punching.specs.Answers.{after}
 use Rattle.index.specs.Index.{index_room, indexed_for, laid, firsts_of, numbers_of, entries_of}
 
@@ -60,9 +60,6 @@ module _ (firsts₀ numbers₀ : List ℕ) where
       no_room m p e = let c = size-taken (read f t) n counted in lays-nothing answer m p (rw (c.0, sym c.1, sym e))
 
       module _ (room : taken tt ≡ index_room n (length firsts₀) (length numbers₀)) where
-        has_room : (length (entries_of f t) ≤ length firsts₀) × (length (entries_of f t) ≤ length numbers₀)
-        has_room = rw (sym (size-taken (read f t) n counted).1) (room-both n _ _ room)
-
         indexed-all : answer ≡ taken (entries_of f t)
         unfolding indexed_for
         indexed-all = let c = size-taken (read f t) n counted in rw (c.0, sym c.1, sym room)
@@ -76,8 +73,3 @@ module _ (firsts₀ numbers₀ : List ℕ) where
         lays-none h =
             let none = none-listed (entries_of f t) (omega (arith, h, (size-taken (read f t) n counted).1)) in
             lays_all firsts₀ numbers₀ (rw none (refl, refl))
-
-        pub fillable : 0 < n → (part : Part) → part ≡ part_in 0 (read f t)
-            → ((0 < length (entries_of f t)) × (part.from ≡ (get_or (entries_of f t) 0 nowhere).from))
-            × ((length (entries_of f t) ≤ length firsts₀) × (length (entries_of f t) ≤ length numbers₀))
-        fillable h part e = ((omega (arith, h, (size-taken (read f t) n counted).1), ap (λ x. x.from) e), has_room)

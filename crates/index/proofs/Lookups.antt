@@ -8,7 +8,7 @@ use Rattle.rows.specs.Passes.{Changed, Damaged}
 use Rattle.shorthand.specs.declared.Format.{Format}
 use Rattle.profile.specs.Answers.{agreed}
 use Rattle.profile.proofs.Settling.{agreed-facts}
-use Rattle.reading.specs.Parse.{Entry}
+use Rattle.reading.specs.declared.Entry.{Entry}
 use Rattle.reading.specs.Answers.{nowhere, read, read_under, entry_numbered, block_numbered, rows_numbered, entry_rows}
 use Rattle.reading.proofs.Programs.{from-taken}
 use Rattle.index.specs.Index.{Indexes}

@@ -12,8 +12,8 @@ use Rattle.rows.specs.Passes.{Every}
 use Rattle.shorthand.specs.declared.Format.{Format}
 use Rattle.shorthand.specs.Facts.{Facts}
 use Rattle.reading.specs.declared.Block.{Block}
-use Rattle.reading.specs.Relation.{Start, counted, bare, Blocked, block}
-use Rattle.reading.specs.Parse.{Entry}
+use Rattle.reading.specs.Relation.{counted, bare, Blocked, block}
+use Rattle.reading.specs.declared.Entry.{Entry}
 use Rattle.reading.specs.Answers.{read}
 use Rattle.reading.proofs.Accepted.{read_taken}
 use Rattle.reading.proofs.ReadBlocks.{Entries, none, more}

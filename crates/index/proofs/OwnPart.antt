@@ -1,15 +1,15 @@
 -- The own rows of a block as a part of its tape: where they begin and end, and where a refusal of their first three stages stands.
-use mathlib.Core.Path.{◌≡◌, refl}
+use mathlib.Core.Path.{◌≡◌}
 use mathlib.Core.Bool.{Bool, true, false, cond}
 use mathlib.Core.List.{List}
-use Prim.Native.Nat.{ℕ, ◌+◌, ◌≤◌, ◌<◌}
+use Prim.Native.Nat.{ℕ, ◌+◌, ◌≤◌, ◌<◌, min}
 use native.Mathlib.Nat.{le_refl}
 use native.Mathlib.Decide.{dec_le}
 use native.Mathlib.Omega.{arith}
 use lib.Dec.{ltb}
-use lib.ListN.{length, get_or, take, drop, length-drop, drop_of_length-le}
-use lib.Seq.{take_all, take-length, length-take-le}
-use borrow.Author.Tests.{lt-ltb, le-ltb, ltb-true, ltb-false}
+use lib.ListN.{length, get_or, take, drop, length-drop}
+use lib.Seq.{take_all, length-take-le}
+use Rattle.std.proofs.lemmas.List.{drop_min, take_min}
 use Rattle.rows.specs.Answer.{refused}
 use Rattle.rows.specs.Stages.{judged}
 use Rattle.rows.specs.Faults.{RowRefusal, long, odd, foreign, fault}
@@ -20,14 +20,8 @@ use Rattle.index.specs.Finding.{up_to}
 
 module _ (t : List ℕ) where
   -- a row behind the end stands for the end
-  pub at_end : (a r : ℕ) → r ≡ cond (ltb a (length t)) a (length t) → (r ≤ length t) × (take r t ≡ take a t) × (drop r t ≡ drop a t)
-  at_end a r e = by (ltb a (length t)) refl e
-    where
-      by : (b : Bool) → ltb a (length t) ≡ b → r ≡ cond b a (length t) → (r ≤ length t) × (take r t ≡ take a t) × (drop r t ≡ drop a t)
-      by true q h = let l = ltb-true a (length t) q in rw h (omega (arith, l), refl, refl)
-      by false q h =
-          let l = ltb-false a (length t) q in
-          rw (h, take-length t, take_all a t l, drop_of_length-le t {i = length t} (le_refl _), drop_of_length-le t {i = a} l) (le_refl _, refl, refl)
+  pub at_end : (a r : ℕ) → r ≡ min a (length t) → (r ≤ length t) × (take r t ≡ take a t) × (drop r t ≡ drop a t)
+  at_end a r e = rw e (omega arith, take_min a t, drop_min a t)
 
   shorter : (a : ℕ) → length (take a t) ≤ length t
   shorter a =
@@ -37,12 +31,6 @@ module _ (t : List ℕ) where
       ]
 
   module _ (firsts : List ℕ) (n : ℕ) where
-    pub up-to-next : n + 1 < length firsts → take (get_or firsts (n + 1) 0) t ≡ up_to t firsts n
-    up-to-next l = rw (lt-ltb (n + 1) (length firsts) l)
-
-    pub up-to-end : length firsts ≤ n + 1 → take (length t) t ≡ up_to t firsts n
-    up-to-end l = rw (le-ltb (n + 1) (length firsts) l, take-length t)
-
     pub up-to-within : length (up_to t firsts n) ≤ length t
     up-to-within = by (ltb (n + 1) (length firsts))
       where

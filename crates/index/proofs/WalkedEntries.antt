@@ -11,12 +11,12 @@ use lib.Seq.{length-take-le, take_all, take-length, get_or-take, get_or-drop}
 use borrow.Author.Tests.{ltb-true, ltb-false}
 use Rattle.rows.specs.Answer.{taken, refused, ◌>>◌}
 use Rattle.rows.specs.Passes.{Passes, Changed, Damaged, First}
-use Rattle.rows.specs.Stages.{limit, in_limit, judged}
+use Rattle.rows.specs.Stages.{limit, in_limit}
 use Rattle.rows.proofs.Judged.{passes-clean, clean-passes}
 use Rattle.rows.proofs.Parity.{damaged}
 use Rattle.shorthand.specs.declared.Format.{Format}
 use Rattle.shorthand.specs.Facts.{Facts}
-use Rattle.reading.specs.Parse.{Entry}
+use Rattle.reading.specs.declared.Entry.{Entry}
 use Rattle.reading.specs.Answers.{nowhere, nth, read}
 use Rattle.reading.specs.Survey.{entry_from}
 use Rattle.reading.proofs.Accepted.{read_taken}

@@ -11,7 +11,7 @@ use Rattle.rows.specs.Passes.{Every}
 use Rattle.shorthand.specs.declared.Format.{Format}
 use Rattle.shorthand.specs.Facts.{Facts}
 use Rattle.reading.specs.declared.Block.{Block}
-use Rattle.reading.specs.Parse.{Entry}
+use Rattle.reading.specs.declared.Entry.{Entry}
 use Rattle.reading.specs.Answers.{read}
 use Rattle.index.specs.Index.{mark, marked, number_in, numbers_of}
 use Rattle.index.specs.Finding.{first_at, number_found, has_number, first_numbered}

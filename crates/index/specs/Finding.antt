@@ -1,14 +1,13 @@
 -- What is found through an index: block n and its rows, and the first block of a number. Nothing before the block's first row is looked at (document 02, 7/12).
 use Rattle.std.specs.Prelude.{ℕ, suc, ◌+◌, Bool, ◌&&◌, cond, List, [], ◌∷◌, eqb, ltb, length, get_or, take, drop}
-use Rattle.rows.specs.Answer.{Answer, taken, refused, refusal, ◌>>=◌, ◌>>◌}
+use Rattle.rows.specs.Answer.{Answer, taken, refused, ◌>>=◌, ◌>>◌}
 use Rattle.rows.specs.Stages.{in_limit, judged}
 use Rattle.shorthand.specs.declared.Format.{Format}
 use Rattle.profile.specs.Answers.{agreed}
 use Rattle.reading.specs.declared.Block.{Block}
-use Rattle.reading.specs.Parse.{Entry}
+use Rattle.reading.specs.declared.Entry.{Entry}
 use Rattle.reading.specs.Answers.{entry_rows}
 use Rattle.reading.specs.Survey.{entry_from}
-use Rattle.index.specs.declared.Located.{Located}
 use Rattle.index.specs.Index.{mark}
 
 -- the place of a refusal, counted from row i
@@ -55,8 +54,3 @@ has_number q b = b.numbered && eqb b.sequence q
 unfoldable pub first_numbered : ℕ → ℕ → List Entry → Answer ℕ
 first_numbered q i [] = refused 25 0
 first_numbered q i (x ∷ es) = cond (has_number q x.block) (taken i) (first_numbered q (suc i) es)
-
--- what each case of `Located` says
-abbrev pub located_told : Located → Answer ℕ
-located_told (Located.Block n) = taken n
-located_told (Located.Refused r) = refusal r

@@ -4,7 +4,7 @@ use Rattle.rows.specs.Answer.{Answer, taken, refused, value_or, ◌>>=◌, ◌>>
 use Rattle.shorthand.specs.declared.Format.{Format}
 use Rattle.profile.specs.Answers.{agreed}
 use Rattle.reading.specs.declared.Block.{Block}
-use Rattle.reading.specs.Parse.{Entry}
+use Rattle.reading.specs.declared.Entry.{Entry}
 use Rattle.reading.specs.Answers.{read}
 
 -- the mark for a missing number; every number has nine digits at most

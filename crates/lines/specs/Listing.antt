@@ -1,10 +1,11 @@
 -- What the listing program writes for a profile, its argument, and its whole input (documents 01, "The listing program", and 02, 2/12).
-use Rattle.std.specs.Prelude.{ℕ, ◌+◌, ◌-◌, Bool, true, false, ◌&&◌, cond, List, [], ◌∷◌, ◌++◌, eqb, ltb, leb, length, take, drop}
+use Rattle.std.specs.Prelude.{ℕ, ◌+◌, ◌-◌, ◌&&◌, cond, List, [], ◌∷◌, ◌++◌, ltb, leb, length, take, drop}
+use Rattle.std.specs.Str.{bytes_eq}
 use Rattle.rows.specs.Answer.{Answer, taken, refused, value_or, ◌>>=◌}
 use Rattle.shorthand.specs.declared.Format.{Format}
 use Rattle.shorthand.specs.Layout.{empty_format}
 use Rattle.profile.specs.Answers.{agreed}
-use Rattle.reading.specs.Parse.{Entry}
+use Rattle.reading.specs.declared.Entry.{Entry}
 use Rattle.reading.specs.Answers.{read}
 use Rattle.text.specs.Text.{text}
 use Rattle.text.specs.Finding.{index_of}
@@ -13,29 +14,20 @@ use Rattle.lines.specs.Lines.{block_line, count_line, refusal_line}
 
 -- ---- the header: edition, a space, the shorthand, LF
 
-abbrev pub same : List ℕ → List ℕ → Bool
-same [] [] = true
-same [] (y ∷ ys) = false
-same (x ∷ xs) [] = false
-same (x ∷ xs) (y ∷ ys) = eqb x y && same xs ys
-
 -- the edition by its text; any other is none, and 0
 abbrev pub edition_of : List ℕ → ℕ
-edition_of xs = cond (same xs (text "1057")) 1057 (cond (same xs (text "2539")) 2539 0)
+edition_of xs = cond (bytes_eq xs (text "1057")) 1057 (cond (bytes_eq xs (text "2539")) 2539 0)
 
 -- where the header's LF stands, among the first 200 bytes
 abbrev pub header_end : List ℕ → ℕ
 header_end input = index_of 10 (take 200 input)
 
-abbrev pub no_header : Header
-no_header = record { edition = 0; from = 0; to = 0; rows = 0 }
-
--- the edition stands before the first space, the shorthand behind it up to the LF, and then the rows
-abbrev pub header_at : List ℕ → ℕ → ℕ → Header
+-- the edition stands before the first space, the shorthand behind it up to the LF, and then the rows; what has no header has no edition, 1
+abbrev pub header_at : List ℕ → ℕ → ℕ → Answer Header
 header_at input lf space =
-    cond (ltb lf (length (take 200 input)) && ltb space lf) (record { edition = edition_of (take space input); from = space + 1; to = lf; rows = lf + 1 }) no_header
+    cond (ltb lf (length (take 200 input)) && ltb space lf) (taken (record { edition = edition_of (take space input); from = space + 1; to = lf; rows = lf + 1 })) (refused 1 0)
 
-unfoldable pub header_of : List ℕ → Header
+unfoldable pub header_of : List ℕ → Answer Header
 header_of input = header_at input (header_end input) (index_of 32 (take (header_end input) input))
 
 abbrev pub shorthand_of : List ℕ → Header → List ℕ
@@ -66,9 +58,11 @@ abbrev pub printed : ℕ → Answer (List Entry) → List ℕ
 printed n (taken es) = block_lines n es ++ count_line (length es)
 printed n (refused m p) = refusal_line m p
 
+-- the Format of an input under a profile: of its header, if it has one
+abbrev pub format_under : List ℕ → List ℕ → Answer Format
+format_under p input = header_of input >>= λ h. agreed h.edition (shorthand_of input h) p
+
 -- all that the program writes; a profile of no bytes is none
 unfoldable pub listing : List ℕ → List ℕ → List ℕ
 listing p input =
-    let h = header_of input in
-    let s = shorthand_of input h in
-    printed (value_or empty_format (agreed h.edition s p)).sequence (listed_under h.edition s p (rows_of input h))
+    printed (value_or empty_format (format_under p input)).sequence (header_of input >>= λ h. listed_under h.edition (shorthand_of input h) p (rows_of input h))

@@ -1,97 +1,58 @@
 // The listing's input: its header, and the number of blocks of its rows.
-ghost use Rattle.std.specs.Prelude.{◌≡◌, ◌≤◌, min, length};
-ghost use Rattle.reading.specs.Answers.{count_told, size_of};
-ghost use Rattle.lines.specs.Listing.{same, edition_of, no_header, header_of, listed_under};
+ghost use Rattle.std.specs.Prelude.{◌≡◌, ◌≤◌, length, IfOk};
+ghost use Rattle.rows.specs.Answer.{told};
+ghost use Rattle.reading.specs.Answers.{size_of};
+ghost use Rattle.lines.specs.Listing.{edition_of, header_of, listed_under};
 
 use crate::Header;
-use reading::Counted;
-use rows::{Checked, Refusal};
+use profile::Terms;
+use rows::{Cause, Refusal};
 use text::finding::find_byte;
 
 // The most rows that are listed.
 pub const MOST: usize = 60000;
 
-fn is_same(a: &[u8], b: &[u8]) -> bool
-    ensures { result ≡ same a.now b.now }
-{
-    if a.len() != b.len() {
-        return false;
-    }
-    let mut i = 0;
-    while i < a.len() {
-        if a[i] != b[i] {
-            return false;
-        }
-        i += 1;
-    }
-    true
-}
+// The most bytes that a header may have.
+const HEADER: usize = 200;
 
+// The edition by its text; any other text is 0, which is no edition. A number and no Option: `Terms` takes any number, and refuses this one in its turn.
 fn edition_of(text: &[u8]) -> u32
     ensures { result ≡ edition_of text.now }
 {
-    if is_same(text, b"1057") {
-        return 1057;
-    }
-    if is_same(text, b"2539") {
-        return 2539;
-    }
-    0
-}
-
-fn at_most_200(n: usize) -> usize
-    ensures { result ≡ min 200 n }
-{
-    if n < 200 { n } else { 200 }
-}
-
-fn no_header() -> Header
-    ensures { result ≡ no_header }
-{
-    Header {
-        edition: 0,
-        from: 0,
-        to: 0,
-        rows: 0,
+    match text {
+        b"1057" => 1057,
+        b"2539" => 2539,
+        _ => 0,
     }
 }
 
-// The header of an input; one that has none gives the edition 0, which is refused.
-pub fn read_header(input: &[u8]) -> Header
-    ensures header { result ≡ header_of input.now }
-    ensures within { (result.from ≤ result.to) × (result.to ≤ length input.now) × (result.rows ≤ length input.now) }
+// The header of an input; one that has none is refused as one without an edition.
+pub fn read_header(input: &[u8]) -> Result<Header, Refusal>
+    ensures header { told result ≡ header_of input.now }
+    ensures within { IfOk result (λ h. (h.from ≤ h.to) × (h.to ≤ length input.now) × (h.rows ≤ length input.now)) }
 {
-    let most = at_most_200(input.len());
-    let lf = find_byte(input, 0, most, 10);
-    if most <= lf {
-        return no_header();
+    let most = HEADER.min(input.len());
+    let lf = find_byte(input, 0, most, b'\n');
+    let space = find_byte(input, 0, lf, b' ');
+    if most <= lf || lf <= space {
+        return Err(Cause::Edition.at(0));
     }
-    let space = find_byte(input, 0, lf, 32);
-    if lf <= space {
-        return no_header();
-    }
-    Header {
+    Ok(Header {
         edition: edition_of(&input[..space]),
         from: space + 1,
         to: lf,
         rows: lf + 1,
-    }
+    })
 }
 
-// The number of blocks of an input's rows under a profile, or why they are not listed.
-pub fn count_listed(edition: u32, text: &[u8], profile: &[u8], tape: &[u8]) -> Counted
-    ensures { count_told result ≡ size_of (listed_under edition text.now profile.now tape.now) }
+// The number of blocks of an input's rows under its terms, or why they are not listed.
+#[tactic(auto, unfolding(crate::specs::Listing::listed_under, reading::specs::Answers::read_under))]
+pub fn count_listed(terms: &Terms<'_>, tape: &[u8]) -> Result<usize, Refusal>
+    ensures { told result ≡ size_of (listed_under terms.now.edition terms.now.shorthand.now terms.now.profile.now tape.now) }
 {
-    if tape.len() <= MOST {
-        return reading::count_blocks(edition, text, profile, tape);
+    if MOST < tape.len() {
+        profile::parse(terms)?;
+        return Err(Cause::Length.at(MOST));
     }
-    let parsed = profile::parse(edition, text, profile);
-    let outcome = parsed.outcome;
-    match outcome {
-        Checked::Clean => Counted::Refused(Refusal {
-            number: 4,
-            place: MOST,
-        }),
-        Checked::Refused(r) => Counted::Refused(r),
-    }
+    reading::count_blocks(terms, tape)
 }

@@ -1,26 +1,38 @@
 // Lines: the last line of a listing, made in a lent buffer, and the header of the listing's input.
 #![tactic(auto)]
 
-ghost use Rattle.std.specs.Prelude.{◌≡◌, ◌≤◌, length};
+ghost use Rattle.std.specs.Prelude.{◌≡◌, ◌≤◌, length, IfOk};
+ghost use Rattle.rows.specs.Answer.{told};
 ghost use Rattle.punching.specs.Answers.{room_for, written, after};
-ghost use Rattle.lines.specs.Answers.{printed_told, bytes_of, closing};
+ghost use Rattle.lines.specs.Answers.{Tells, closing};
 
 mod closing;
 pub mod input;
 
 use closing::put_closing;
-use reading::Counted;
-use rows::Refusal;
+use rows::{Cause, Refusal};
 use text::put_all;
 
-// How many bytes were put.
-#[derive(Clone, Copy)]
-pub enum Printed {
-    Bytes(usize),
-    Refused(Refusal),
+// A refusal as a last line says it: any number and any place, those that no refusal has too.
+#[derive(Clone, Copy, Debug, PartialEq, Eq)]
+pub struct Said {
+    pub number: u32,
+    pub place: usize,
+}
+
+impl From<Refusal> for Said {
+    ghost from_gives = { Tells };
+
+    fn from(refusal: Refusal) -> Said {
+        Said {
+            number: u32::from(refusal.cause),
+            place: refusal.place,
+        }
+    }
 }
 
 // What the header says: the edition, where the shorthand stands (from a byte up to, and without, another), and where the rows begin.
+// Places and no slices: `header_of` says them, and a vector's answer is these numbers.
 #[derive(Clone, Copy)]
 pub struct Header {
     pub edition: u32,
@@ -32,19 +44,16 @@ pub struct Header {
 // The room that every last line can be put in: "refused", a space, 20 digits, a space, 20 digits and LF.
 const ROOM: usize = 50;
 
-// The last line: the count of the blocks, or the refusal. It is composed whole before the buffer is touched.
-pub fn last_line(count: Counted, buffer: &mut [u8]) -> Printed
-    ensures bytes { printed_told result ≡ written (room_for buffer.old (closing count)) }
+// The last line: the count of the blocks, or the refusal; it answers how many bytes were put. It is composed whole before the buffer is touched.
+pub fn last_line(count: Result<usize, Said>, buffer: &mut [u8]) -> Result<usize, Refusal>
+    ensures bytes { told result ≡ written (room_for buffer.old (closing count)) }
     ensures buffer { buffer.new ≡ after buffer.old (room_for buffer.old (closing count)) }
-    ensures within { bytes_of result ≤ length buffer.old }
+    ensures within { IfOk result (λ n. n ≤ length buffer.old) }
 {
     let mut line = [0u8; ROOM];
     let size = put_closing(&mut line, count);
     if buffer.len() < size {
-        return Printed::Refused(Refusal {
-            number: 19,
-            place: size,
-        });
+        return Err(Cause::Room.at(size));
     }
-    Printed::Bytes(put_all(buffer, 0, &line[..size]))
+    Ok(put_all(buffer, 0, &line[..size]))
 }

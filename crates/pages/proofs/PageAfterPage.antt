@@ -12,7 +12,7 @@ use Rattle.rows.specs.Kept.{KeptRow}
 use Rattle.shorthand.specs.declared.Format.{Format}
 use Rattle.words.specs.Figures.{taking}
 use Rattle.parts.specs.Ends.{entered}
-use Rattle.reading.specs.Parse.{Entry}
+use Rattle.reading.specs.declared.Entry.{Entry}
 use Rattle.reading.specs.Answers.{read}
 use Rattle.reading.specs.Remains.{Remains, all, later}
 use Rattle.reading.proofs.Remaining.{remains-are}

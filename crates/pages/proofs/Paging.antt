@@ -9,8 +9,10 @@ use lib.Dec.{leb}
 use lib.ListN.{length, take, drop, length-append, replicate}
 use lib.Seq.{sets, sets-eq, take_at, take-append_seam, length-take-le}
 use borrow.Author.Tests.{le-leb, leb-true, leb-false, ne_eqb}
-use Rattle.rows.specs.Answer.{Answer, taken, refused}
-use Rattle.rows.proofs.OneAnswer.{Case, takes, refuses, one}
+use Rattle.std.specs.Prelude.{Result, Ok, Err, IfOk}
+use Rattle.rows.specs.Answer.{Answer, taken, refused, told}
+use Rattle.rows.specs.declared.refusals.Cause.{Cause}
+use Rattle.rows.specs.declared.refusals.Refusal.{Refusal}
 use Rattle.rows.specs.Kept.{KeptRow}
 use Rattle.shorthand.specs.declared.Format.{Format}
 use Rattle.words.specs.declared.Word.{Word}
@@ -22,20 +24,18 @@ use Rattle.steps.specs.declared.Event.TheVariants.{Finished, Opened, Out, Read, 
 use Rattle.parts.specs.Items.{item_at}
 use Rattle.steps.specs.Steps.{Spot, Moved, between, step_at}
 use Rattle.reading.specs.Record.{blank as no_word, block_of}
-use Rattle.reading.specs.Parse.{Entry, blocks_at}
+use Rattle.reading.specs.declared.Entry.{Entry}
+use Rattle.reading.specs.Parse.{blocks_at}
 use Rattle.reading.specs.Front.{Rising}
-use Rattle.reading.proofs.StepLaws.{more-come, Under, entry_of, open_in, open-most, effort, Walk, walk-starts, walk-rest, words-few, Further, Goes, goes}
+use Rattle.reading.proofs.StepLaws.{more-come, Under, entry_of, open_in, open-most, effort, Walk, walk-starts, walk-rest, words-few, Further, Goes, goes, halts}
 use Rattle.punching.specs.Answers.{after}
 use Rattle.text.specs.Line.{Put}
 use Rattle.text.specs.Text.{word_text, words_text, start_text}
 use Rattle.text.proofs.Puts.{put-none, put-more, put_as, put-length}
-use Rattle.pages.specs.declared.Added.TheVariants.{Listed, Full}
-use Rattle.pages.specs.declared.Page.{Page}
-use Rattle.pages.specs.declared.Page.TheVariants.{Lines}
 use Rattle.pages.specs.declared.Sheet.{Sheet}
 use Rattle.lines.specs.Lines.{block_line}
 use Rattle.lines.specs.Listing.{block_lines}
-use Rattle.pages.specs.Pages.{blocks_from, fitting, end_of, Paged, page_of, page_in, paged, page_told, sheet_of, text_of, size_in}
+use Rattle.pages.specs.Pages.{blocks_from, fitting, end_of, Paged, page_of, page_in, paged, sheet_of, text_of}
 use Rattle.pages.specs.Adding.{fits_in, added_to, line_after, full_at}
 use Rattle.pages.proofs.OneLine.{line-after-length}
 
@@ -122,13 +122,13 @@ module _ (n : ℕ) where
   cut-is from (d ∷ ds) rest = rw (append-nil ds)
 
   -- the same as a page in code
-  abbrev cut_page : Sheet → List Entry → List Entry → Page
-  cut_page s [] [] = Lines s
-  cut_page s [] (e ∷ es) = Page.Refused (record { number = 19; place = line_size e })
-  cut_page s (d ∷ ds) rest = Lines s
+  abbrev cut_page : Sheet → List Entry → List Entry → Result Sheet Refusal
+  cut_page s [] [] = Ok s
+  cut_page s [] (e ∷ es) = Err (record { cause = Cause.Room; place = line_size e })
+  cut_page s (d ∷ ds) rest = Ok s
 
   cut-told : (s : Sheet) (from : ℕ) (done rest : List Entry) → s ≡ record { blocks = length done; bytes = length (block_lines n done); next = end_of from done }
-      → page_told (cut_page s done rest) ≡ sheet_of (cut from done rest)
+      → told (cut_page s done rest) ≡ sheet_of (cut from done rest)
   cut-told s from [] [] e = ap taken e
   cut-told s from [] (x ∷ xs) e = refl
   cut-told s from (d ∷ ds) rest e = ap taken e
@@ -138,12 +138,12 @@ module _ (n : ℕ) where
   cut-text from l l₀ [] (x ∷ xs) e = e
   cut-text from l l₀ (d ∷ ds) rest e = e
 
-  cut-size : (s : Sheet) (k : ℕ) (done rest : List Entry) → s.bytes ≤ k → size_in (cut_page s done rest) ≤ k
+  cut-size : (s : Sheet) (k : ℕ) (done rest : List Entry) → s.bytes ≤ k → IfOk (cut_page s done rest) (λ x. x.bytes ≤ k)
   cut-size s k [] [] h = h
-  cut-size s k [] (x ∷ xs) h = zero-le
+  cut-size s k [] (x ∷ xs) h = tt
   cut-size s k (d ∷ ds) rest h = h
 
-  cut-over : (s : Sheet) (done : List Entry) → Lines s ≡ cut_page s done []
+  cut-over : (s : Sheet) (done : List Entry) → Ok s ≡ cut_page s done []
   cut-over s [] = refl
   cut-over s (d ∷ ds) = refl
 
@@ -200,8 +200,8 @@ module _ (len : ℕ) (f : Format) (first : ℕ) (start : List KeptRow) (l₀ : L
   answer es = page_in f.sequence first es (fitting f.sequence (length l₀) es)
 
   -- what the walk answers, leaves in the buffer, and how many bytes it says to be there
-  abbrev pub Says : List Entry → Page → List ℕ → Type 0
-  Says es page l = (page_told page ≡ sheet_of (answer es)) × ((l ≡ after l₀ (text_of (answer es))) × (size_in page ≤ length l₀))
+  abbrev pub Says : List Entry → Result Sheet Refusal → List ℕ → Type 0
+  Says es page l = (told page ≡ sheet_of (answer es)) × ((l ≡ after l₀ (text_of (answer es))) × (IfOk page (λ s. s.bytes ≤ length l₀)))
 
   abbrev Nearer : ℕ → Spot → ℕ → Spot → Type 0
   Nearer next v was s = effort len next v.stage v.item < effort len was s.stage s.item
@@ -211,15 +211,15 @@ module _ (len : ℕ) (f : Format) (first : ℕ) (start : List KeptRow) (l₀ : L
     pub lf-within : lf < len
     pub used-room : used < length line
     pub page-room : (sheet.blocks ≤ sheet.bytes) × (sheet.bytes ≤ length l)
-    pub listed : (more : Sheet) (l₂ line₂ : List ℕ) → Listed more ≡ added_to used (length l) sheet (lf + 1) → length line₂ ≡ length line → l₂ ≡ line_after line used l sheet
+    pub listed : (more : Sheet) (l₂ line₂ : List ℕ) → Ok more ≡ added_to used (length l) sheet (lf + 1) → length line₂ ≡ length line → l₂ ≡ line_after line used l sheet
         → Pages v more l₂ line₂ used
-    pub nearer : (more : Sheet) → Listed more ≡ added_to used (length l) sheet (lf + 1) → Nearer more.next v sheet.next s
+    pub nearer : (more : Sheet) → Ok more ≡ added_to used (length l) sheet (lf + 1) → Nearer more.next v sheet.next s
     pub as_long : (l₂ : List ℕ) → l₂ ≡ line_after line used l sheet → length l₂ ≡ length l₀
-    pub filled : (k : ℕ) (l₂ : List ℕ) → Full k ≡ added_to used (length l) sheet (lf + 1) → l₂ ≡ line_after line used l sheet → (page : Page) → page ≡ full_at sheet k → Says es page l₂
+    pub filled : (k : ℕ) (l₂ : List ℕ) → Err k ≡ added_to used (length l) sheet (lf + 1) → l₂ ≡ line_after line used l sheet → (page : Result Sheet Refusal) → page ≡ full_at sheet k → Says es page l₂
 
   -- what holds behind a step
   abbrev pub After : List Entry → Spot → Sheet → List ℕ → List ℕ → ℕ → Spot → Event → Type 0
-  After es s sheet l line used v Finished = Says es (Lines sheet) l
+  After es s sheet l line used v Finished = Says es (Ok sheet) l
   After es s sheet l line used v (Opened b) =
       (0 + f.sequence + 24 ≤ length line)
       × ((line₂ : List ℕ) (n : ℕ) → Put line 0 (start_text f.sequence b) line₂ n → n ≤ 0 + f.sequence + 24 → Pages v sheet l line₂ n)
@@ -228,12 +228,11 @@ module _ (len : ℕ) (f : Format) (first : ℕ) (start : List KeptRow) (l₀ : L
   After es s sheet l line used v (Read w) =
       (used + 23 ≤ length line) × ((line₂ : List ℕ) (n : ℕ) → Put line used (word_text w) line₂ n → n ≤ used + 23 → Pages v sheet l line₂ n) × Nearer sheet.next v sheet.next s
   After es s sheet l line used v (Closed lf) = Ends es s sheet l line used v lf
-  After es s sheet l line used v (Event.Refused r) = ⊥
 
   module _ (es : List Entry) (left : blocks_at (length start) len f first start ≡ taken es) where
     -- the page is the lines done, before the rest
     says : {s : Spot} {sheet : Sheet} {l line : List ℕ} {used : ℕ} (g : Pages s sheet l line used) (rest : List Entry) → es ≡ g.done ++ rest
-        → FullAt f.sequence (length l₀ - sheet.bytes) rest → (page : Page) → page ≡ cut_page f.sequence sheet g.done rest → Says es page l
+        → FullAt f.sequence (length l₀ - sheet.bytes) rest → (page : Result Sheet Refusal) → page ≡ cut_page f.sequence sheet g.done rest → Says es page l
     says {sheet = sheet} {l = l} g rest e full page q =
         let size : sheet.bytes ≡ length (block_lines f.sequence g.done) = g.put.end ∙ omega arith in
         let few : length (block_lines f.sequence g.done) ≤ length l₀ = omega (arith, size, g.within) in
@@ -356,7 +355,7 @@ module _ (len : ℕ) (f : Format) (first : ℕ) (start : List KeptRow) (l₀ : L
         where
           by-listed : open_in v.stage ≡ 0 → take used line ++ (10 ∷ []) ≡ block_line f.sequence (block_of g.begun g.words) → length (block_line f.sequence (block_of g.begun g.words)) ≡ used + 1
               → Further len f (length start) first start (done_with lf) g.begun g.words g.fuel (lf + 1) next s v → (sh : Sheet) (l₂ line₂ : List ℕ) (b : Bool) → fits_in used (length l) sheet ≡ b
-              → Listed sh ≡ cond b (Listed (record { blocks = sheet.blocks + 1; bytes = sheet.bytes + (used + 1); next = lf + 1 })) (Full (used + 1)) → length line₂ ≡ length line
+              → ◌≡◌ {A = Result Sheet ℕ} (Ok sh) (cond b (Ok (record { blocks = sheet.blocks + 1; bytes = sheet.bytes + (used + 1); next = lf + 1 })) (Err (used + 1))) → length line₂ ≡ length line
               → l₂ ≡ cond b (sets l sheet.bytes (take used line ++ (10 ∷ []))) l → Pages v sh l₂ line₂ used
           by-listed shut line-is size o sh l₂ line₂ false q z e r = let w : ◌≡◌ {A = ℕ} 0 1 = cc in absurd (omega (arith, w))
           by-listed shut line-is size o sh l₂ line₂ true q z e r =
@@ -381,14 +380,14 @@ module _ (len : ℕ) (f : Format) (first : ℕ) (start : List KeptRow) (l₀ : L
               })
 
           by-nearer : Further len f (length start) first start (done_with lf) g.begun g.words g.fuel (lf + 1) next s v → (sh : Sheet) (b : Bool)
-              → Listed sh ≡ cond b (Listed (record { blocks = sheet.blocks + 1; bytes = sheet.bytes + (used + 1); next = lf + 1 })) (Full (used + 1)) → Nearer sh.next v next s
+              → ◌≡◌ {A = Result Sheet ℕ} (Ok sh) (cond b (Ok (record { blocks = sheet.blocks + 1; bytes = sheet.bytes + (used + 1); next = lf + 1 })) (Err (used + 1))) → Nearer sh.next v next s
           by-nearer o sh false z = let w : ◌≡◌ {A = ℕ} 0 1 = cc in absurd (omega (arith, w))
           by-nearer o sh true z = let is : sh ≡ record { blocks = sheet.blocks + 1; bytes = sheet.bytes + (used + 1); next = lf + 1 } = cc in rw is o.nearer
 
           by-full : take used line ++ (10 ∷ []) ≡ block_line f.sequence (block_of g.begun g.words) → length (block_line f.sequence (block_of g.begun g.words)) ≡ used + 1
               → Further len f (length start) first start (done_with lf) g.begun g.words g.fuel (lf + 1) next s v → (k : ℕ) (l₂ : List ℕ) (b : Bool) → fits_in used (length l) sheet ≡ b
-              → Full k ≡ cond b (Listed (record { blocks = sheet.blocks + 1; bytes = sheet.bytes + (used + 1); next = lf + 1 })) (Full (used + 1))
-              → l₂ ≡ cond b (sets l sheet.bytes (take used line ++ (10 ∷ []))) l → (page : Page) → page ≡ full_at sheet k → Says es page l₂
+              → ◌≡◌ {A = Result Sheet ℕ} (Err k) (cond b (Ok (record { blocks = sheet.blocks + 1; bytes = sheet.bytes + (used + 1); next = lf + 1 })) (Err (used + 1)))
+              → l₂ ≡ cond b (sets l sheet.bytes (take used line ++ (10 ∷ []))) l → (page : Result Sheet Refusal) → page ≡ full_at sheet k → Says es page l₂
           by-full line-is size o k l₂ true q z r page w = let x : ◌≡◌ {A = ℕ} 0 1 = cc in absurd (omega (arith, x))
           by-full line-is size o k l₂ false q z r page w =
               let is : k ≡ used + 1 = cc in
@@ -398,27 +397,24 @@ module _ (len : ℕ) (f : Format) (first : ℕ) (start : List KeptRow) (l₀ : L
               let long = leb-false (used + 1) (length l - sheet.bytes) q in
               rw r (says g (e ∷ rest.0) whole (omega (arith, long, size, same)) page (w ∙ cut-full f.sequence sheet g.done e rest.0 k g.counted (is ∙ sym size)))
 
-      pub page-on : (m : Moved) → m ≡ step_at len u leads (item_at f s.item) s → (e : Event) → m.event ≡ e → After es s sheet l line used m.spot e
+      pub page-on : (m : Moved) → taken m ≡ step_at len u leads (item_at f s.item) s → (e : Event) → m.event ≡ e → After es s sheet l line used m.spot e
       page-on m q e r = by e (goes len f (length start) first start h g.walk (more-come len f (length start) first start g.walk (le_refl _)) m q e r)
         where
           by : (v : Event) → Goes len f (length start) first start g.done g.begun g.words g.fuel next s m.spot v → After es s sheet l line used m.spot v
-          by Finished o = let is : es ≡ g.done = (let z = sym left ∙ o.0 in cc) in says g [] (is ∙ sym (append-nil g.done)) tt (Lines sheet) (cut-over f.sequence sheet g.done)
+          by Finished o = let is : es ≡ g.done = (let z = sym left ∙ o.0 in cc) in says g [] (is ∙ sym (append-nil g.done)) tt (Ok sheet) (cut-over f.sequence sheet g.done)
           by (Opened b) o = opens m.spot b o.0 o.1 o.2
           by Out o = (still (omega (arith, g.walk.room, o.walk.room)) o.walk, o.nearer)
           by (Read w) o = reads m.spot w o.0 o.1 o.2
           by (Closed lf) o = closes m.spot lf o.0 o.2
-          by (Event.Refused r) o = let z = sym left ∙ o in let w : ◌≡◌ {A = ℕ} 0 1 = cc in absurd (omega (arith, w))
+
+      -- no step of an accepted tape is refused
+      pub never-refused : (n p : ℕ) → refused n p ≡ step_at len u leads (item_at f s.item) s → ⊥
+      never-refused n p e =
+          let z = sym left ∙ halts len f (length start) first start h g.walk (more-come len f (length start) first start g.walk (le_refl _)) n p e in
+          let w : ◌≡◌ {A = ℕ} 0 1 = cc in absurd (omega (arith, w))
 
 -- ---- the page by what is left
 
 pub paged-are : (f : Format) (size : ℕ) (t : List ℕ) (from : ℕ) (es : List Entry) → blocks_from f t from ≡ taken es → paged f size t from ≡ page_in f.sequence from es (fitting f.sequence size es)
 unfolding paged
 paged-are f size t from es e = rw e
-
--- one possible result: what a page's answer tells is told by no other
-pub one-page : (r q : Page) → page_told r ≡ page_told q → r ≡ q
-one-page r q = one page_told Page.Lines Page.Refused (case r) (case q)
-  where
-    case : (r : Page) → Case page_told Page.Lines Page.Refused r
-    case (Page.Lines s) = takes s refl
-    case (Page.Refused r) = refuses r refl

@@ -1,10 +1,10 @@
 -- A page of a listing: the lines of the blocks from a row on, as many as fit in a lent buffer.
 use Rattle.std.specs.Prelude.{ℕ, ◌-◌, cond, List, [], ◌∷◌, leb, length}
-use Rattle.rows.specs.Answer.{Answer, taken, refused, refusal, ◌>>=◌}
+use Rattle.rows.specs.Answer.{Answer, taken, refused, ◌>>=◌}
 use Rattle.rows.specs.Kept.{kept_at}
 use Rattle.shorthand.specs.declared.Format.{Format}
-use Rattle.reading.specs.Parse.{Entry, blocks_at}
-use Rattle.pages.specs.declared.Page.{Page}
+use Rattle.reading.specs.declared.Entry.{Entry}
+use Rattle.reading.specs.Parse.{blocks_at}
 use Rattle.pages.specs.declared.Sheet.{Sheet}
 use Rattle.lines.specs.Lines.{block_line}
 use Rattle.lines.specs.Listing.{block_lines}
@@ -44,18 +44,9 @@ page_in n from (e ∷ es) (x ∷ xs) = taken (page_of n from (x ∷ xs))
 unfoldable pub paged : Format → ℕ → List ℕ → ℕ → Answer Paged
 paged f size t from = blocks_from f t from >>= λ es. page_in f.sequence from es (fitting f.sequence size es)
 
--- what each case of `Page` says
-abbrev pub page_told : Page → Answer Sheet
-page_told (Page.Lines s) = taken s
-page_told (Page.Refused r) = refusal r
-
+-- what is answered of a page
 abbrev pub sheet_of : Answer Paged → Answer Sheet
 sheet_of a = a >>= λ p. taken (record { blocks = p.blocks; bytes = length p.text; next = p.next })
 
 abbrev pub text_of : Answer Paged → Answer (List ℕ)
 text_of a = a >>= λ p. taken p.text
-
--- how many bytes a page has
-abbrev pub size_in : Page → ℕ
-size_in (Page.Lines s) = s.bytes
-size_in (Page.Refused r) = 0

@@ -4,7 +4,7 @@ use mathlib.Core.Bool.{Bool, true, false, cond}
 use mathlib.Core.List.{List, [], ◌∷◌}
 use mathlib.Core.Logic.{◌⊎◌, inl, inr}
 use Prim.Native.Nat.{ℕ, zero, suc, ◌+◌, ◌≤◌, ◌<◌}
-use native.Mathlib.Nat.{le_refl, le_of_suc-le-suc}
+use native.Mathlib.Nat.{le_refl}
 use native.Mathlib.Decide.{dec_lt}
 use native.Mathlib.Omega.{arith}
 use lib.Dec.{eqb, ltb}
@@ -27,12 +27,6 @@ all_alike zero i a = refl
 all_alike (suc n) zero a = refl
 all_alike (suc n) (suc i) a = all_alike n i a
 
--- within a list, what would stand past its end is of no account
-pub lead-within : (leads : List ℕ) (c : ℕ) → c < length leads → get_or leads c 0 ≡ lead_of leads c
-lead-within [] c l = absurd (omega (arith, l))
-lead-within (k ∷ leads) zero l = refl
-lead-within (k ∷ leads) (suc c) l = lead-within leads c (le_of_suc-le-suc l)
-
 module _ (f : Format) where
   -- the letters of the first k items lead to them, and all other characters nowhere
   pub record Led (leads : List ℕ) (k : ℕ) : Type 0 where
@@ -47,9 +41,6 @@ module _ (f : Format) where
         own = λ i l. absurd (omega (arith, l));
         others = λ c n. ap (λ x. lead_of x c) e ∙ all_alike 256 c 22;
       }
-
-  pub led-all : {leads : List ℕ} {k : ℕ} → Led leads k → k ≡ f.count → Leads f leads
-  led-all g e = record { all = g.all; own = λ i l. g.own i (omega (arith, l, e)); others = λ c n. g.others c (λ i m. n i (omega (arith, m, e))) }
 
   module _ (h : Facts f) where
     apart : (i k : ℕ) → i < k → k < f.count → letter_at f i ≡ letter_at f k → ⊥

@@ -1,6 +1,4 @@
 -- Laws of the crate's definitions, each file named for its subject.
 pub mod Entering
-pub mod Marks
 pub mod Leading
 pub mod BareFronts
-pub mod Reaching

@@ -1,123 +1,88 @@
 // An end, and the head of a tape.
 ghost use Rattle.std.specs.Prelude.{◌≡◌, length};
+ghost use Rattle.rows.specs.Answer.{told_by};
 ghost use Rattle.words.specs.declared.Wanted.{Wanted};
-ghost use Rattle.words.specs.Front.{rows_at};
+ghost use Rattle.words.specs.Front.{rows_at, read_told};
 ghost use Rattle.parts.specs.Ends.{after_cr, ended, head_at, entered, close_at};
-ghost use Rattle.parts.specs.Front.{found_told, end_told, end_refusal};
+ghost use Rattle.parts.specs.Front.{end_told};
 
-use crate::{EndFound, EndRead};
-use rows::{Checked, Next, Refusal};
-use words::Wanted;
-use words::figures::{refuse_front, wrong_number};
+use crate::End;
+use rows::{Kept, Refusal};
+use words::figures::refuse_front;
+use words::{Read, Wanted};
+
+// The end that a kept LF makes.
+impl From<Kept> for End {
+    ghost from_gives = { λ row end. (end.lf ≡ row.place) × (end.after ≡ row.after) };
+
+    fn from(row: Kept) -> End {
+        End {
+            lf: row.place,
+            after: row.after,
+        }
+    }
+}
 
 // The LF that must stand behind a CR.
-fn behind_cr(tape: &[u8], cr: usize, front: Next, wanted: Wanted) -> EndFound
-    ensures { found_told tape.now result ≡ after_cr (length tape.now) wanted (record { place = cr; char = 13 }) (rows_at tape.now front) }
+fn behind_cr(tape: &[u8], cr: usize, front: Option<Kept>, wanted: Wanted) -> Result<End, Refusal>
+    ensures { told_by (end_told tape.now) result ≡ after_cr (length tape.now) wanted (record { place = cr; char = 13 }) (rows_at tape.now front) }
 {
-    let Next::Row {
-        character,
-        place,
-        after,
-    } = front
-    else {
-        return EndFound::Refused(refuse_front(tape, front, wanted));
-    };
-    if character == 10 {
-        EndFound::At(place, after)
-    } else {
-        EndFound::Refused(Refusal {
-            number: wrong_number(wanted),
-            place: cr,
-        })
+    match front {
+        Some(row) if row.character == '\n' => Ok(End::from(row)),
+        Some(_) => Err(wanted.wrong().at(cr)),
+        None => Err(refuse_front(tape, front, wanted)),
     }
 }
 
 // An end, the head's or a block's: LF, or CR directly before LF.
-fn find_lf(tape: &[u8], front: Next, wanted: Wanted) -> EndFound
-    ensures { found_told tape.now result ≡ ended (length tape.now) wanted (rows_at tape.now front) }
+#[tactic(auto, using(words::proofs::Fetched::fetched))]
+fn find_lf(tape: &[u8], front: Option<Kept>, wanted: Wanted) -> Result<End, Refusal>
+    ensures { told_by (end_told tape.now) result ≡ ended (length tape.now) wanted (rows_at tape.now front) }
 {
-    let Next::Row {
-        character,
-        place,
-        after,
-    } = front
-    else {
-        return EndFound::Refused(refuse_front(tape, front, wanted));
+    let Some(row) = front else {
+        return Err(refuse_front(tape, front, wanted));
     };
-    match character {
-        10 => EndFound::At(place, after),
-        13 => behind_cr(tape, place, rows::next_kept(tape, after), wanted),
-        _ => EndFound::Refused(refuse_front(tape, front, wanted)),
+    match row.character {
+        '\n' => Ok(End::from(row)),
+        '\r' => behind_cr(tape, row.place, rows::next_kept(tape, row.after), wanted),
+        _ => Err(refuse_front(tape, front, wanted)),
     }
 }
 
 // The end of a block; one that is empty is refused where it ends.
-pub fn find_end(tape: &[u8], empty: bool, front: Next) -> EndFound
-    ensures { found_told tape.now result ≡ close_at (length tape.now) empty (rows_at tape.now front) }
+pub fn find_end(tape: &[u8], empty: bool, front: Option<Kept>) -> Result<End, Refusal>
+    ensures { told_by (end_told tape.now) result ≡ close_at (length tape.now) empty (rows_at tape.now front) }
 {
-    match find_lf(tape, front, Wanted::End) {
-        EndFound::At(lf, after) => {
-            if empty {
-                EndFound::Refused(Refusal {
-                    number: wrong_number(Wanted::Start),
-                    place: lf,
-                })
-            } else {
-                EndFound::At(lf, after)
-            }
-        }
-        EndFound::Refused(r) => EndFound::Refused(r),
+    let end = find_lf(tape, front, Wanted::End)?;
+    if empty {
+        return Err(Wanted::Start.wrong().at(end.lf));
     }
-}
-
-// The end of the head, with the row behind it.
-fn read_end(tape: &[u8], front: Next) -> EndRead
-    ensures { end_told tape.now result ≡ ended (length tape.now) Wanted.Head (rows_at tape.now front) }
-{
-    match find_lf(tape, front, Wanted::Head) {
-        EndFound::At(lf, after) => EndRead::At(lf, rows::next_kept(tape, after)),
-        EndFound::Refused(r) => EndRead::Refused(r),
-    }
+    Ok(end)
 }
 
 // "%" and an end.
-fn read_head(tape: &[u8], front: Next) -> EndRead
-    ensures { end_told tape.now result ≡ head_at (length tape.now) (rows_at tape.now front) }
+#[tactic(auto, using(words::proofs::Fetched::fetched), unfolding(crate::specs::Ends::head_at))]
+fn read_head(tape: &[u8], front: Option<Kept>) -> Result<Read<usize>, Refusal>
+    ensures { told_by (read_told tape.now) result ≡ head_at (length tape.now) (rows_at tape.now front) }
 {
-    let Next::Row {
-        character,
-        place: _,
-        after,
-    } = front
-    else {
-        return EndRead::Refused(refuse_front(tape, front, Wanted::Head));
-    };
-    if character == 37 {
-        read_end(tape, rows::next_kept(tape, after))
-    } else {
-        EndRead::Refused(refuse_front(tape, front, Wanted::Head))
+    match front {
+        Some(row) if row.character == '%' => {
+            let end = find_lf(tape, rows::next_kept(tape, row.after), Wanted::Head)?;
+            let front = rows::next_kept(tape, end.after);
+            Ok(Read {
+                value: end.lf,
+                front,
+            })
+        }
+        _ => Err(refuse_front(tape, front, Wanted::Head)),
     }
 }
 
 // The first three stages and the head: where the blocks begin.
-pub fn enter_tape(tape: &[u8]) -> EndRead
-    ensures { end_told tape.now result ≡ entered tape.now }
+#[tactic(auto, unfolding(crate::specs::Ends::entered))]
+pub fn enter_tape(tape: &[u8]) -> Result<Read<usize>, Refusal>
+    ensures { told_by (read_told tape.now) result ≡ entered tape.now }
 {
-    if let Checked::Refused(r) = rows::check(tape) {
-        return EndRead::Refused(r);
-    }
+    rows::check(tape)?;
     read_head(tape, rows::next_kept(tape, 0))
-}
-
-// The refusal of an end that was not read.
-pub fn end_refusal(end: EndRead) -> Refusal
-    ensures { result ≡ end_refusal end }
-{
-    match end {
-        EndRead::At(_, _) => Refusal {
-            number: 0,
-            place: 0,
-        },
-        EndRead::Refused(r) => r,
-    }
 }

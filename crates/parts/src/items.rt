@@ -1,7 +1,6 @@
 // How an item stands, by how its word is known, and which item is due next: a letter leads straight to its item, so that those left out between are not
 // tried one by one.
 ghost use Rattle.std.specs.Prelude.{◌≡◌, cond, List, ℕ, length};
-ghost use Rattle.shorthand.specs.Facts.{Facts};
 ghost use Rattle.shorthand.specs.Layout.{by_letter, by_tab, way_by};
 ghost use Rattle.words.specs.Figures.{front_place};
 ghost use Rattle.words.specs.Front.{rows_at};
@@ -9,68 +8,51 @@ ghost use Rattle.parts.specs.Items.{Standing, begins, standing, Leads, due_at};
 ghost use Rattle.parts.specs.Items.{rules_of};
 ghost use Rattle.parts.specs.Front.{reach_told};
 
-use crate::{Reach, Rules};
-use rows::Next;
-use shorthand::Format;
+use crate::{Guide, Reach, Rules};
+use rows::Kept;
+use shorthand::{Format, Usable};
 
 // Whether the fetched row is the address; the data stand behind it.
-fn at_letter(tape: &[u8], letter: u8, front: Next) -> Reach
+#[tactic(auto, using(words::proofs::Fetched::fetched))]
+fn at_letter(tape: &[u8], letter: u8, front: Option<Kept>) -> Reach
     ensures { reach_told tape.now result ≡ standing by_letter letter (rows_at tape.now front) }
 {
-    let Next::Row {
-        character,
-        place,
-        after,
-    } = front
-    else {
-        return Reach::Out(front);
-    };
-    if character == letter {
-        Reach::At(place, rows::next_kept(tape, after))
-    } else {
-        Reach::Out(front)
+    match front {
+        Some(row) if row.character == letter as char => Reach::At(
+            row.place,
+            rows::next_kept(tape, row.after),
+        ),
+        _ => Reach::Out(front),
     }
 }
 
 // Whether the fetched row is a digit or a sign, with which the data of a word without address begin.
-fn at_figure(front: Next) -> Reach
+fn at_figure(front: Option<Kept>) -> Reach
     ensures { (t : List ℕ) (c : ℕ) → reach_told t result ≡ cond (begins by_tab c (rows_at t front)) (Standing.at (front_place (rows_at t front)) (rows_at t front)) (Standing.out (rows_at t front)) }
 {
-    let Next::Row {
-        character,
-        place,
-        after: _,
-    } = front
-    else {
+    let Some(row) = front else {
         return Reach::Out(front);
     };
-    let sign = (character == 43) | (character == 45);
-    let digit = (48 <= character) & (character <= 57);
-    if digit | sign {
-        Reach::At(place, front)
-    } else {
-        Reach::Out(front)
+    match row.character {
+        '0'..='9' | '+' | '-' => Reach::At(row.place, front),
+        _ => Reach::Out(front),
     }
 }
 
 // How the item of a letter stands: with tabs behind an HT.
-pub fn reach_item(tape: &[u8], dots: bool, addresses: bool, letter: u8, front: Next) -> Reach
-    ensures { reach_told tape.now result ≡ standing (way_by dots addresses) letter (rows_at tape.now front) }
+#[tactic(auto, using(words::proofs::Fetched::fetched))]
+pub fn reach_item(tape: &[u8], rules: Rules, letter: u8, front: Option<Kept>) -> Reach
+    ensures { reach_told tape.now result ≡ standing (way_by rules.dots rules.addresses) letter (rows_at tape.now front) }
 {
-    if dots {
-        let Next::Row {
-            character,
-            place: _,
-            after,
-        } = front
-        else {
+    if rules.dots {
+        let Some(row) = front else {
             return Reach::Stops;
         };
-        if character != 9 {
+        if row.character != '\t' {
             return Reach::Stops;
         }
-        let next = rows::next_kept(tape, after);
-        if addresses {
+        let next = rows::next_kept(tape, row.after);
+        if rules.addresses {
             return at_letter(tape, letter, next);
         }
         return at_figure(next);
@@ -79,7 +61,7 @@ pub fn reach_item(tape: &[u8], dots: bool, addresses: bool, letter: u8, front: N
 }
 
 // What a step has to know of a Format.
-pub fn rules_of(format: Format) -> Rules
+fn rules_of(format: Format) -> Rules
     ensures { result ≡ rules_of format }
 {
     Rules {
@@ -91,39 +73,47 @@ pub fn rules_of(format: Format) -> Rules
     }
 }
 
-// For every character the place of the item with that letter, 22 where there is none. Laid out once for a whole tape.
-pub fn lead_letters(format: Format) -> [u8; 256]
-    requires { Facts format }
-    ensures { Leads format result }
+// For every character the place of the item with that letter, 22 where there is none.
+fn lead_letters(usable: Usable) -> [u8; 256]
+    ensures { Leads usable.format result }
 {
     let mut leads = [22u8; 256];
-    let mut k: usize = 0;
-    while k < format.count {
-        let item = format.items[k];
-        let letter = item.letter as usize;
+    for k in 0..usable.format.count {
+        let letter = usable.format.items[k].letter as usize;
         leads[letter] = k as u8;
-        k += 1;
     }
     leads
 }
 
-// The first item from item k on that may have a word at the front; with tabs that is item k itself.
-pub fn due_item(leads: &[u8], dots: bool, k: usize, front: Next) -> usize
-    requires { 256 ≡ length leads.now }
-    ensures { (t : List ℕ) → result ≡ due_at leads.now dots k (rows_at t front) }
+// What guides a walk under a Format, laid out once for a whole tape.
+pub fn guide_of(usable: Usable) -> Guide
+    ensures rules { result.rules ≡ rules_of usable.format }
+    ensures leads { Leads usable.format result.leads }
 {
-    if dots {
-        return k;
+    Guide {
+        rules: rules_of(usable.format),
+        leads: lead_letters(usable),
     }
-    match front {
-        Next::End => 22,
-        Next::Row {
-            character,
-            place: _,
-            after: _,
-        } => {
-            let led = leads[character as usize] as usize;
-            if led < k { 22 } else { led }
+}
+
+impl Guide {
+    // The first item from item k on that may have a word at the front, or 22; with tabs that is item k itself.
+    // Stays so: the definitions Leads and due_at have 22 where there is none
+    #[tactic(auto, unfolding(crate::specs::Items::due_at))]
+    pub fn due(&self, k: usize, front: Option<Kept>) -> usize
+        ensures { (t : List ℕ) → result ≡ due_at self.now.leads self.now.rules.dots k (rows_at t front) }
+    {
+        if self.rules.dots {
+            return k;
         }
+        let Some(row) = front else {
+            return 22;
+        };
+        let led = self
+            .leads
+            .get(row.character as usize)
+            .copied()
+            .unwrap_or(22) as usize;
+        if led < k { 22 } else { led }
     }
 }

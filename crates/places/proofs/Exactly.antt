@@ -12,7 +12,7 @@ use Rattle.shorthand.specs.Facts.{Facts}
 use Rattle.profile.proofs.Settling.{settled-exactly, settled-facts}
 use Rattle.reading.specs.declared.Block.{Block}
 use Rattle.reading.specs.Relation.{Program, chars}
-use Rattle.reading.specs.Parse.{Entry}
+use Rattle.reading.specs.declared.Entry.{Entry}
 use Rattle.reading.specs.Answers.{program_at, read, read_under}
 use Rattle.reading.proofs.Sound.{sound}
 use Rattle.places.specs.Begins.{Begins}

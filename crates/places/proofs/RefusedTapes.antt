@@ -9,8 +9,8 @@ use lib.Dec.{ltb}
 use borrow.Author.Tests.{ne_eqb}
 use Rattle.rows.specs.Answer.{Answer, taken, refused, ◌>>=◌, ◌>>◌}
 use Rattle.rows.specs.Stages.{limit, barred, scan, refuse_at, in_limit, judged}
-use Rattle.rows.specs.declared.Found.{Found}
-use Rattle.rows.specs.declared.Found.TheVariants.{Nowhere, At}
+use Rattle.std.specs.Prelude.{Option}
+use Rattle.std.specs.Prelude.{None, Some}
 use Rattle.rows.specs.declared.Side.TheVariants.{Outside}
 use Rattle.rows.specs.Kept.{kept}
 use Rattle.rows.proofs.Judged.{clean-passes}
@@ -29,9 +29,9 @@ settling-other e s p n k low high q =
     rw (ne_eqb n 1 (λ e. omega arith), ne_eqb n 2 (λ e. omega arith), ne_eqb n 3 (λ e. omega arith), ne_eqb n 22 (λ e. omega arith), ne_eqb n 23 (λ e. omega arith)) at
     (refused-numbers ((unsettled-exactly e s p n k).0 q))
 
-stage-low : (m n p : ℕ) (x : Found) → m ≤ 7 → refuse_at m x ≡ refused n p → n ≤ 7
-stage-low m n p Nowhere l e = let z : ◌≡◌ {A = ℕ} 0 1 = cc in absurd (omega arith)
-stage-low m n p (At q) l e = let k : m ≡ n = cc in omega arith
+stage-low : (m n p : ℕ) (x : Option ℕ) → m ≤ 7 → refuse_at m x ≡ refused n p → n ≤ 7
+stage-low m n p None l e = let z : ◌≡◌ {A = ℕ} 0 1 = cc in absurd (omega arith)
+stage-low m n p (Some q) l e = let k : m ≡ n = cc in omega arith
 
 -- one of two stages has refused
 either-low : {A : Type 0} (a : Answer (Unit {0})) (b : Answer A) (n p : ℕ) → (a ≡ refused n p → n ≤ 7) → (b ≡ refused n p → n ≤ 7) → (a >> b) ≡ refused n p → n ≤ 7

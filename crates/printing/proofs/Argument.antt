@@ -4,15 +4,17 @@ use native.Mathlib.Omega.{arith}
 use mathlib.Core.Path.{◌≡◌, refl, ap}
 use mathlib.Core.List.{List, [], ◌∷◌}
 use lib.ListN.{length, take}
-use Rattle.rows.specs.Answer.{Answer, taken, refused, ◌>>=◌}
+use Rattle.rows.specs.Answer.{Answer, taken, refused, value_or, ◌>>=◌}
 use Rattle.shorthand.specs.declared.Edition.{Edition}
 use Rattle.shorthand.specs.declared.Edition.TheVariants.{Iso1057, Iso2539}
 use Rattle.shorthand.specs.declared.Format.{Format}
+use Rattle.shorthand.specs.Layout.{empty_format}
 use Rattle.shorthand.specs.Parse.{parsed}
 use Rattle.profile.specs.Form.{Slot, form_of}
 use Rattle.profile.specs.Agreement.{said_in}
 use Rattle.profile.specs.Answers.{filled, held_to, profiled, edition_of, agreed}
-use Rattle.lines.specs.Listing.{header_of, shorthand_of, listed_under, listing}
+use Rattle.lines.specs.declared.Header.{Header}
+use Rattle.lines.specs.Listing.{header_of, shorthand_of, rows_of, listed_under, printed, listing}
 
 -- a byte behind more bytes than the form has places is not looked at
 cut-form : (ss : List Slot) (p n : ℕ) (t : List ℕ) → length ss < n → filled ss p (take n t) ≡ filled ss p t
@@ -44,4 +46,12 @@ cut-agreed e s p = by (parsed e s)
 -- what is written for the first 32 bytes of an argument is what is written for the argument
 pub cut-argument : (p input : List ℕ) → listing (take 32 p) input ≡ listing p input
 unfolding listing listed_under
-cut-argument p input = let h = header_of input in rw (cut-agreed h.edition (shorthand_of input h) p)
+cut-argument p input = by (header_of input)
+  where
+    written : List ℕ → Answer Header → List ℕ
+    written q a =
+        printed (value_or empty_format (a >>= λ h. agreed h.edition (shorthand_of input h) q)).sequence (a >>= λ h. listed_under h.edition (shorthand_of input h) q (rows_of input h))
+
+    by : (a : Answer Header) → written (take 32 p) a ≡ written p a
+    by (taken h) = rw (cut-agreed h.edition (shorthand_of input h) p)
+    by (refused n k) = refl

@@ -1,34 +1,33 @@
 // What the programs that list blocks share: their argument, their input, the line of a block, and the last line.
 #![tactic(auto)]
 
-ghost use Rattle.std.specs.Prelude.{◌≡◌, ◌+◌, ◌≤◌, min, length};
+ghost use Rattle.std.specs.Prelude.{◌≡◌, replicate, ◌+◌, ◌≤◌, length};
 ghost use Rattle.std.specs.Io.{ReadsAtMost};
 ghost use Rattle.io.specs.Counts.{IsPrefixLen};
 ghost use Rattle.text.specs.Line.{Put};
 ghost use Rattle.lines.specs.Lines.{block_line};
 
-use lines::Printed;
+use lines::Said;
 use parts::Begun;
-use reading::{Block, Counted};
+use reading::Block;
 use std::env::FillError;
 use std::io;
 use std::io::{Read, Write};
 use std::rt::Env;
 use text::{put, put_start, put_word};
 
-// The bytes of the argument that are looked at. A profile in form has at most 10 bytes, so a longer text is out of form, and its first wrong byte is
+// How many bytes of the argument are looked at. A profile in form has at most 10 bytes, so a longer text is out of form, and its first wrong byte is
 // among its first 11: the first 32 bytes of it are refused by 22 at the same place (`cut-agreed` of proofs/Argument.antt, for every argument).
-pub fn argument_space() -> [u8; 32]
-    ensures { 32 ≡ length result }
-{
-    [0; 32]
-}
+pub const ARGUMENT: usize = 32;
 
 // Room for the lines of a page.
-pub fn output_space() -> [u8; 65536]
-    ensures { 65536 ≡ length result }
+pub type Output = [u8; 65536];
+
+// Room for so many bytes.
+pub fn space<const N: usize>() -> [u8; N]
+    ensures { result ≡ replicate N 0 }
 {
-    [0; 65536]
+    [0; N]
 }
 
 // How many bytes of the buffer are the profile: none without an argument, and all where the argument is longer, since then its first bytes fill it.
@@ -46,6 +45,7 @@ pub fn read_profile(rt: &impl Env, buffer: &mut [u8]) -> usize
 pub fn read_input<R: Read>(from: &mut R, space: &mut [u8]) -> io::Result<usize>
     ensures { ReadsAtMost result space.new }
 {
+    // A loop: std has no read that fills a lent space and takes an end of the input before it is full.
     let mut done: usize = 0;
     while done < space.len() {
         let n = from.read(&mut space[done..])?;
@@ -57,20 +57,12 @@ pub fn read_input<R: Read>(from: &mut R, space: &mut [u8]) -> io::Result<usize>
     Ok(done)
 }
 
-// How many words a block has, whatever its count says.
-fn words_of(count: usize) -> usize
-    ensures { result ≡ min count 22 }
-{
-    if count < 22 { count } else { 22 }
-}
-
 // The line of a block.
 pub fn put_block(line: &mut [u8], digits: u8, block: Block) -> usize
     requires { digits + 531 ≤ length line.old }
     ensures put { Put line.old 0 (block_line digits block) line.new result }
     ensures end { result ≤ digits + 531 }
 {
-    let count = words_of(block.count);
     let begun = Begun {
         skip: block.skip,
         alignment: block.alignment,
@@ -78,18 +70,20 @@ pub fn put_block(line: &mut [u8], digits: u8, block: Block) -> usize
         sequence: block.sequence,
     };
     let mut at = put_start(line, 0, digits, begun);
-    let mut i: usize = 0;
-    while i < count {
-        at = put_word(line, at, block.words[i]);
-        i += 1;
+    for word in &block.words[..block.count.min(22)] {
+        at = put_word(line, at, *word);
     }
-    put(line, at, 10)
+    put(line, at, b'\n')
 }
 
 // The last line, composed in a buffer and written.
-pub fn write_last<W: Write>(writer: &mut W, count: Counted, out: &mut [u8]) -> io::Result<()> {
+pub fn write_last<W: Write>(
+    writer: &mut W,
+    count: Result<usize, Said>,
+    out: &mut [u8],
+) -> io::Result<()> {
     match lines::last_line(count, out) {
-        Printed::Bytes(n) => writer.write_all(&out[..n]),
-        Printed::Refused(_) => Ok(()),
+        Ok(n) => writer.write_all(&out[..n]),
+        Err(_) => Ok(()),
     }
 }

@@ -4,7 +4,6 @@ pub mod Agreeing
 pub mod Profiles
 pub mod Settling
 pub mod Cases
-pub mod Slots
 pub mod Walks
-pub mod Tallies
+pub mod Queries
 pub mod Reading

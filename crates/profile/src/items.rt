@@ -1,85 +1,89 @@
 // What agreement asks of the detailed shorthand (document 02, 2/12; refusal 23).
-ghost use Rattle.std.specs.Prelude.{◌≡◌, ◌<◌};
-ghost use Rattle.shorthand.specs.Facts.{Facts};
-ghost use Rattle.shorthand.specs.Layout.{items_of, incremental};
-ghost use Rattle.profile.specs.Answers.{agrees};
-ghost use Rattle.profile.specs.Front.{tallied, tallied_all, none_tallied};
+ghost use Rattle.std.specs.Prelude.{◌≡◌, ◌&&◌, not};
+ghost use Rattle.shorthand.specs.Layout.{incremental};
+ghost use Rattle.profile.specs.Agreement.{is_dimension, is_increment, is_rotary, is_counted, how_many};
+ghost use Rattle.profile.specs.Answers.{any_item, dots_agree, moves_agree, agrees};
 
-use crate::{General, Tally};
-use shorthand::{Format, Item, Kind, Mark};
+use crate::General;
+use shorthand::{Item, Kind, Mark, Usable};
 
 pub fn is_increment(mark: Mark) -> bool
     ensures { result ≡ incremental mark }
 {
-    match mark {
-        Mark::Unmarked => false,
-        Mark::Plus => false,
-        Mark::Delta => true,
+    mark == Mark::Delta
+}
+
+// A dimension by A, B, C, D or E.
+fn is_rotary(item: &Item) -> bool
+    ensures { result ≡ is_rotary item.now }
+{
+    matches!(item.kind, Kind::Dimension(_)) && matches!(item.letter, b'A'..=b'E')
+}
+
+// A dimension but I, J and K.
+fn is_counted(item: &Item) -> bool
+    ensures { result ≡ is_counted item.now }
+{
+    matches!(item.kind, Kind::Dimension(_)) && !matches!(item.letter, b'I'..=b'K')
+}
+
+fn is_step(item: &Item) -> bool
+    ensures { result ≡ is_increment item.now.kind }
+{
+    matches!(item.kind, Kind::Dimension(figures) if is_increment(figures.mark))
+}
+
+fn is_absolute(item: &Item) -> bool
+    ensures { result ≡ (is_dimension item.now.kind && not (is_increment item.now.kind)) }
+{
+    matches!(item.kind, Kind::Dimension(figures) if !is_increment(figures.mark))
+}
+
+fn any_rotary(items: &[Item]) -> bool
+    ensures { result ≡ any_item is_rotary items.now }
+{
+    items.iter().any(is_rotary)
+}
+
+fn count_counted(items: &[Item]) -> usize
+    ensures { result ≡ how_many is_counted items.now }
+{
+    items.iter().filter(|item| is_counted(item)).count()
+}
+
+// A has no dots, S and T have them.
+fn dots_agree(way: u8, dots: bool) -> bool
+    ensures { result ≡ dots_agree way dots }
+{
+    match way {
+        b'A' => !dots,
+        b'S' | b'T' => dots,
+        _ => true,
     }
 }
 
-fn tally_item(tally: Tally, item: Item) -> Tally
-    requires { tally.counted < 255 }
-    ensures { result ≡ tallied tally item }
+// Last A: no increments; last I: nothing else.
+fn moves_agree(moves: u8, items: &[Item]) -> bool
+    ensures { result ≡ moves_agree moves items.now }
 {
-    let letter = item.letter;
-    let kind = item.kind;
-    let Kind::Dimension(figures) = kind else {
-        return tally;
-    };
-    let increment = is_increment(figures.mark);
-    // I, J and K are not counted.
-    let centre = (b'I' <= letter) & (letter <= b'K');
-    Tally {
-        rotary: tally.rotary | ((b'A' <= letter) & (letter <= b'E')),
-        increments: tally.increments | increment,
-        absolutes: tally.absolutes | !increment,
-        counted: if centre {
-            tally.counted
-        } else {
-            tally.counted + 1
-        },
+    match moves {
+        b'A' => !items.iter().any(is_step),
+        b'I' => !items.iter().any(is_absolute),
+        _ => true,
     }
 }
 
-fn tally_items(format: Format) -> Tally
-    requires { Facts format }
-    ensures { result ≡ tallied_all none_tallied (items_of format) }
+#[tactic(auto, using(crate::proofs::Queries::no_items), unfolding(crate::specs::Answers::agrees))]
+pub(crate) fn agree(usable: Usable, general: General) -> bool
+    ensures { result ≡ agrees usable.format general }
 {
-    let mut tally = Tally {
-        rotary: false,
-        increments: false,
-        absolutes: false,
-        counted: 0,
-    };
-    let mut k: usize = 0;
-    while k < format.count {
-        let item = format.items[k];
-        tally = tally_item(tally, item);
-        k += 1;
-    }
-    tally
-}
-
-pub(crate) fn agree(format: Format, general: General) -> bool
-    requires { Facts format }
-    ensures { result ≡ agrees format general }
-{
-    let tally = tally_items(format);
-    let rotary = (general.rotary == 0) == !tally.rotary;
-    // A has no dots, S and T have them; without items there is nothing to say of dots.
-    let barred = (general.way == b'A') & format.dots;
-    let missed = ((general.way == b'S') | (general.way == b'T')) & !format.dots;
-    let dots = (format.count == 0) | (!barred & !missed);
-    // Last A: no increments; last I: nothing else.
-    let stepped = (general.moves == b'A') & tally.increments;
-    let placed = (general.moves == b'I') & tally.absolutes;
-    let moves = !stepped & !placed;
+    let format = usable.format;
+    let items = &format.items[..format.count];
+    let rotary = (general.rotary == 0) == !any_rotary(items);
+    // Without items there is nothing to say of dots.
+    let dots = items.is_empty() || dots_agree(general.way, format.dots);
+    let moves = moves_agree(general.moves, items);
     let second = general.second;
-    rotary
-        & dots
-        & moves
-        & (tally.counted == second)
-        & (general.third <= second)
-        & (second <= general.first)
+    let counted = count_counted(items) == usize::from(second);
+    rotary && dots && moves && counted && general.third <= second && second <= general.first
 }

@@ -2,9 +2,7 @@
 #![tactic(auto)]
 
 ghost use Rattle.std.specs.Prelude.{◌≡◌};
-ghost use Rattle.rows.specs.Answer.{told, void, value_or};
-ghost use Rattle.shorthand.specs.Facts.{Facts};
-ghost use Rattle.shorthand.specs.Layout.{empty_format};
+ghost use Rattle.rows.specs.Answer.{told_by};
 ghost use Rattle.profile.specs.Answers.{profiled, agreed};
 
 mod forms;
@@ -12,10 +10,20 @@ pub mod items;
 
 use forms::{fill_form, said_in};
 use items::agree;
-use rows::Checked;
-use shorthand::{Edition, Format, Parsed, refuse};
+use rows::{Cause, Refusal};
+use shorthand::{Edition, Format, Usable};
+
+// What a tape is read or punched under: the number of an edition, a detailed shorthand, and a general one, which may be empty.
+// Stays so: a number and not an Edition, since any number is asked for, and one that is no edition is refused by 1 (`agreed`).
+#[derive(Clone, Copy)]
+pub struct Terms<'a> {
+    pub edition: u32,
+    pub shorthand: &'a [u8],
+    pub profile: &'a [u8],
+}
 
 // What a general shorthand says: A, T or S; R or D, or 0; its three digits; and A, I or B. In 1057 the first and the last are 0.
+// Bytes, 0 for none, and no enums: `said_in`, `Agrees` and `Fills` speak of them so.
 #[derive(Clone, Copy)]
 struct General {
     way: u8,
@@ -26,70 +34,30 @@ struct General {
     moves: u8,
 }
 
-// The byte at each place of the form, 0 where none stands; or the refusal.
-#[derive(Clone, Copy)]
-struct Filled {
-    outcome: Checked,
-    bytes: [u8; 10],
-}
-
-// What agreement asks of the items: whether an axis turns, whether increments and absolute dimensions stand, and how many dimensions but I, J and K.
-#[derive(Clone, Copy)]
-struct Tally {
-    rotary: bool,
-    increments: bool,
-    absolutes: bool,
-    counted: u8,
-}
-
-// The Format under a profile: the same but without addresses under T, and empty beside a refusal. 22 comes before 23 (document 02, 2/12).
-fn hold_profile(edition: Edition, format: Format, profile: &[u8]) -> Parsed
-    requires { Facts format }
-    ensures outcome { told result.outcome ≡ void (profiled edition format profile.now) }
-    ensures format { result.format ≡ value_or empty_format (profiled edition format profile.now) }
+// The Format under a profile: the same but without addresses under T. 22 comes before 23 (document 02, 2/12).
+fn hold_profile(edition: Edition, usable: Usable, profile: &[u8]) -> Result<Usable, Refusal>
+    ensures { told_by (λ held. held.format) result ≡ profiled edition usable.format profile.now }
 {
-    if profile.len() == 0 {
-        return Parsed {
-            outcome: Checked::Clean,
-            format,
-        };
+    if profile.is_empty() {
+        return Ok(usable);
     }
-    let filled = fill_form(edition, profile);
-    let outcome = filled.outcome;
-    match outcome {
-        Checked::Clean => {
-            let general = said_in(edition, filled);
-            if !agree(format, general) {
-                return refuse(23, 0);
-            }
-            Parsed {
-                outcome: Checked::Clean,
-                format: Format {
-                    addresses: general.way != b'T',
-                    ..format
-                },
-            }
-        }
-        Checked::Refused(refusal) => refuse(refusal.number, refusal.place),
+    let bytes = fill_form(edition, profile)?;
+    let general = said_in(edition, bytes);
+    if !agree(usable, general) {
+        return Err(Cause::Disagreement.at(0));
     }
+    let format = Format {
+        addresses: general.way != b'T',
+        ..usable.format
+    };
+    Ok(Usable { format })
 }
 
 // The Format of a detailed shorthand and a profile under an edition. 1, 2 and 3 come before 22 and 23.
-pub fn parse(edition: u32, text: &[u8], profile: &[u8]) -> Parsed
-    ensures outcome { told result.outcome ≡ void (agreed edition text.now profile.now) }
-    ensures format { result.format ≡ value_or empty_format (agreed edition text.now profile.now) }
+pub fn parse(terms: &Terms<'_>) -> Result<Usable, Refusal>
+    ensures { told_by (λ usable. usable.format) result ≡ agreed terms.now.edition terms.now.shorthand.now terms.now.profile.now }
 {
-    let parsed = shorthand::parse(edition, text);
-    let format = parsed.format;
-    let outcome = parsed.outcome;
-    match outcome {
-        Checked::Clean => {
-            let known = match edition {
-                1057 => Edition::Iso1057,
-                _ => Edition::Iso2539,
-            };
-            hold_profile(known, format, profile)
-        }
-        Checked::Refused(_) => parsed,
-    }
+    let edition = Edition::try_from(terms.edition)?;
+    let usable = shorthand::parse(terms.edition, terms.shorthand)?;
+    hold_profile(edition, usable, terms.profile)
 }

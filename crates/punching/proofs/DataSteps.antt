@@ -11,8 +11,8 @@ use Rattle.words.specs.contracts.Value.{the_type}
 use lib.Dec.{ltb}
 use lib.IntN.{ℤ, nat_abs}
 use Rattle.rows.specs.Answer.{taken, refused}
-use Rattle.speeds.specs.declared.Exact.{Exact}
-use Rattle.speeds.specs.declared.Exact.TheVariants.{Inexact, Means}
+use Rattle.std.specs.Prelude.{Option}
+use Rattle.std.specs.Prelude.{None, Some}
 use Rattle.speeds.specs.declared.Speed.{Speed}
 use Rattle.speeds.specs.Coding.{code_for, exact_for}
 use Rattle.speeds.proofs.ExactCode.{exact-coded}
@@ -87,24 +87,24 @@ module _ (i n v : ℕ) where
 
 module _ (i n : ℕ) (v : Speed) where
   -- a speed by its exact code
-  pub speed-fits : (c : ℕ) → Means c ≡ exact_for n v → value_fits i (Kind.Speed n) (Value.Speed v) ≡ taken tt
+  pub speed-fits : (c : ℕ) → Some c ≡ exact_for n v → value_fits i (Kind.Speed n) (Value.Speed v) ≡ taken tt
   speed-fits c e = rw (← e)
 
-  pub speed-inexact : Inexact ≡ exact_for n v → value_fits i (Kind.Speed n) (Value.Speed v) ≡ refused 18 i
+  pub speed-inexact : None ≡ exact_for n v → value_fits i (Kind.Speed n) (Value.Speed v) ≡ refused 18 i
   speed-inexact e = rw (← e)
 
   module _ (fits : value_fits i (Kind.Speed n) (Value.Speed v) ≡ taken tt) where
     -- a speed that fits has an exact code, and is given it
-    has_code : (c : ℕ) × (exact_for n v ≡ Means c) × (code_for n v ≡ taken c)
+    has_code : (c : ℕ) × (exact_for n v ≡ Some c) × (code_for n v ≡ taken c)
     has_code = by (exact_for n v) refl fits
       where
-        by : (x : Exact) → exact_for n v ≡ x → coded i x ≡ taken tt → (c : ℕ) × (exact_for n v ≡ Means c) × (code_for n v ≡ taken c)
-        by (Means c) q h = (c, q, exact-coded n v c q)
-        by Inexact q h = never h
+        by : (x : Option ℕ) → exact_for n v ≡ x → coded i x ≡ taken tt → (c : ℕ) × (exact_for n v ≡ Some c) × (code_for n v ≡ taken c)
+        by (Some c) q h = (c, q, exact-coded n v c q)
+        by None q h = never h
 
     -- the code of one that fits means it exactly
-    pub speed-coded : {c : ℕ} → taken c ≡ code_for n v → exact_for n v ≡ Means c
-    speed-coded {c} e = let q = has_code in let k : q.0 ≡ c = cc in q.1 ∙ ap Means k
+    pub speed-coded : {c : ℕ} → taken c ≡ code_for n v → exact_for n v ≡ Some c
+    speed-coded {c} e = let q = has_code in let k : q.0 ≡ c = cc in q.1 ∙ ap Some k
 
     -- and it has one
     pub speed-codable : {m p : ℕ} → refused m p ≡ code_for n v → ⊥

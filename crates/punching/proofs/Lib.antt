@@ -7,7 +7,6 @@ pub mod FitRecords
 pub mod Measures
 pub mod Lines
 pub mod DigitTurns
-pub mod Magnitudes
 pub mod DataSteps
 pub mod WordSteps
 pub mod WholeRecords

@@ -5,7 +5,7 @@ use mathlib.Core.List.{List, [], ◌∷◌, ◌++◌, append-nil, append_assoc, 
 use mathlib.Core.Bool.{Bool, true, false, ◌&&◌, not, cond}
 use native.Mathlib.Omega.{arith}
 use lib.ListN.{length, take, length-append, length-map}
-use lib.Seq.{sets, sets-eq, take_at, take-length, length-take-le}
+use lib.Seq.{sets, sets-eq, length-sets, take_at, take-length, length-take-le}
 use Rattle.shorthand.specs.declared.Item.{Item}
 use Rattle.shorthand.specs.Layout.{way_by}
 use Rattle.reading.specs.Relation.{address, tab}
@@ -19,18 +19,18 @@ pub joined-more : (p xs ys : List ℕ) → joined p (xs ++ ys) ≡ joined (joine
 joined-more p xs ys = rw (map-append row_of xs ys, append_assoc)
 
 pub put-none : (l : List ℕ) (at : ℕ) → Put l at [] l at
-put-none l at = record { end = omega arith; rows = sym (joined-none (take at l)) }
+put-none l at = record { end = omega arith; rows = sym (joined-none (take at l)); same = refl }
 
 pub put-more : {l₀ l l₂ : List ℕ} {at n m : ℕ} {xs ys : List ℕ} → Put l₀ at xs l n → Put l n ys l₂ m → Put l₀ at (xs ++ ys) l₂ m
 put-more {l₀} {at = at} {xs = xs} {ys = ys} h g =
-    record { end = omega (arith, h.end, g.end, length-append xs ys); rows = g.rows ∙ ap (λ p. joined p ys) h.rows ∙ sym (joined-more (take at l₀) xs ys) }
+    record { end = omega (arith, h.end, g.end, length-append xs ys); rows = g.rows ∙ ap (λ p. joined p ys) h.rows ∙ sym (joined-more (take at l₀) xs ys); same = g.same ∙ h.same }
 
 -- characters stored as rows from a place on
 pub put-sets : (l : List ℕ) (at : ℕ) (cs : List ℕ) → at + length cs ≤ length l → Put l at cs (sets l at (map row_of cs)) (at + length cs)
 put-sets l at cs h =
     let n = length-map cs row_of in
     let k : length (take at l ++ map row_of cs) ≡ at + length cs = omega (arith, length-append (take at l) (map row_of cs), length-take-le at l (omega arith)) in
-    record { end = refl; rows = rw (sets-eq (map row_of cs) l at (omega arith)) (take_at (take at l ++ map row_of cs) _ (at + length cs) k) }
+    record { end = refl; rows = rw (sets-eq (map row_of cs) l at (omega arith)) (take_at (take at l ++ map row_of cs) _ (at + length cs) k); same = simp length-sets }
 
 -- put from the first row to the last, they are the line
 pub put_all : {l₀ l : List ℕ} {n : ℕ} {cs : List ℕ} → Put l₀ 0 cs l n → length l ≡ length (map row_of cs) → l ≡ map row_of cs
@@ -48,18 +48,18 @@ pub coming-all : (l : List ℕ) (at : ℕ) (all : List ℕ) → Coming l at all 
 coming-all l at all = record { rows = refl; end = refl; same = refl }
 
 -- what is put is to come no more
-pub coming-turn : {l₀ l l₂ : List ℕ} {start at n : ℕ} {all rest xs ys : List ℕ} → rest ≡ xs ++ ys → Coming l₀ start all l at rest → Put l at xs l₂ n → length l₂ ≡ length l
+pub coming-turn : {l₀ l l₂ : List ℕ} {start at n : ℕ} {all rest xs ys : List ℕ} → rest ≡ xs ++ ys → Coming l₀ start all l at rest → Put l at xs l₂ n
     → Coming l₀ start all l₂ n ys
-coming-turn {l₀} {l} {l₂} {start} {at} {n} {all} {rest} {xs} {ys} e h g k =
+coming-turn {l₀} {l} {l₂} {start} {at} {n} {all} {rest} {xs} {ys} e h g =
     record {
       rows = h.rows ∙ ap (joined (take at l)) e ∙ joined-more (take at l) xs ys ∙ ap (λ p. joined p ys) (sym g.rows);
       end = omega (arith, h.end, g.end, ap length e, length-append xs ys);
-      same = k ∙ h.same;
+      same = g.same ∙ h.same;
     }
 
 -- where nothing is to come, all is put
 pub coming-over : {l₀ l : List ℕ} {start at : ℕ} {all rest : List ℕ} → rest ≡ [] → Coming l₀ start all l at rest → Put l₀ start all l at
-coming-over {l = l} {at = at} e h = record { end = omega (arith, h.end, ap length e); rows = sym (h.rows ∙ ap (joined (take at l)) e ∙ joined-none (take at l)) }
+coming-over {l = l} {at = at} e h = record { end = omega (arith, h.end, ap length e); rows = sym (h.rows ∙ ap (joined (take at l)) e ∙ joined-none (take at l)); same = h.same }
 
 -- what is still to come has room behind what stands, and a row more
 pub coming-room : {l₀ l : List ℕ} {start at : ℕ} {all rest : List ℕ} → Coming l₀ start all l at rest → start + length all < length l₀ → at + length rest < length l

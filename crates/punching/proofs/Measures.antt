@@ -10,8 +10,8 @@ use lib.Dec.{eqb, leb}
 use lib.IntN.{ℤ, nat_abs}
 use lib.ListN.{length, drop, length-append, length-map}
 use Rattle.rows.specs.Answer.{Answer, taken, refused, ◌>>=◌, ◌>>◌}
-use Rattle.speeds.specs.declared.Exact.{Exact}
-use Rattle.speeds.specs.declared.Exact.TheVariants.{Inexact, Means}
+use Rattle.std.specs.Prelude.{Option}
+use Rattle.std.specs.Prelude.{None, Some}
 use Rattle.speeds.specs.Coding.{exact_for}
 use Rattle.shorthand.specs.declared.Kind.{Kind}
 use Rattle.shorthand.specs.declared.Kind.TheVariants.{Plain}
@@ -92,9 +92,9 @@ signed-length required z n v = omega (arith, digits-length n v)
 signed-length optional z n v = omega (arith, digits-length n v)
 
 -- a code has all its digits
-code-length : (i k : ℕ) (x : Exact) → coded i x ≡ taken tt → length (code_rows k x) ≡ k
-code-length i k (Means c) e = digits-length k c
-code-length i k Inexact e = never e
+code-length : (i k : ℕ) (x : Option ℕ) → coded i x ≡ taken tt → length (code_rows k x) ≡ k
+code-length i k (Some c) e = digits-length k c
+code-length i k None e = never e
 
 -- a value that fits has as many characters as its item's kind says
 pub data-length : (i : ℕ) (k : Kind) (v : Value) → value_fits i k v ≡ taken tt → length (data_rows k v) ≡ data_width k

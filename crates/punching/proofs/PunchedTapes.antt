@@ -21,7 +21,7 @@ use Rattle.profile.proofs.Settling.{settled-exactly, one_format, settled-facts}
 use Rattle.reading.specs.declared.Block.{Block}
 use Rattle.reading.specs.Record.{start_of, words_of}
 use Rattle.reading.specs.Relation.{start_rows, lf, Blocked, none, more, Program, program, chars, TapeOf}
-use Rattle.reading.specs.Parse.{Entry}
+use Rattle.reading.specs.declared.Entry.{Entry}
 use Rattle.reading.specs.Answers.{read_under}
 use Rattle.reading.proofs.Outcomes.{chars-append}
 use Rattle.reading.proofs.Programs.{blocks_of, tape-read, read-tape}

@@ -11,8 +11,8 @@ use borrow.Author.Tests.{ltb-true, ltb-false, leb-true, leb-false, eqb-true}
 use Rattle.rows.specs.Row.{among}
 use Rattle.rows.specs.Answer.{taken, refused, ◌>>◌}
 use Rattle.rows.proofs.Outcomes.{Holds, refusal, value, holds-map, of-taken, of-refused}
-use Rattle.speeds.specs.declared.Exact.{Exact}
-use Rattle.speeds.specs.declared.Exact.TheVariants.{Inexact, Means}
+use Rattle.std.specs.Prelude.{Option}
+use Rattle.std.specs.Prelude.{None, Some}
 use Rattle.speeds.specs.declared.Speed.{Speed}
 use Rattle.speeds.specs.Coding.{exact_for}
 use Rattle.speeds.proofs.ExactCode.{exact-means}
@@ -86,9 +86,9 @@ module _ {Q : ℕ → ℕ → Type 0} where
   fits-then (refusal h) f = refusal h
   fits-then (value h) f = f h
 
-  code_fits : (i k : ℕ) (v : Speed) (x : Exact) → exact_for k v ≡ x → Q 18 i → Holds Q (λ _. Data (Kind.Speed k) (Value.Speed v) (code_rows k x)) (coded i x)
-  code_fits i k v (Means c) e q = value (speed c (exact-means k v c e))
-  code_fits i k v Inexact e q = refusal q
+  code_fits : (i k : ℕ) (v : Speed) (x : Option ℕ) → exact_for k v ≡ x → Q 18 i → Holds Q (λ _. Data (Kind.Speed k) (Value.Speed v) (code_rows k x)) (coded i x)
+  code_fits i k v (Some c) e q = value (speed c (exact-means k v c e))
+  code_fits i k v None e q = refusal q
 
   value-fits : (i : ℕ) → ((n : ℕ) → WordRefusal n → Q n i) → (k : Kind) (v : Value) → Holds Q (λ _. Widths k → Data k v (data_rows k v)) (value_fits i k v)
   value-fits i q (Plain n) (Number v) = holds-map (λ _ h w. number (in_full (ltb-true v (10 ^ n) h))) (tested (ltb v (10 ^ n)) 17 i (λ _. q 17 tt))

@@ -9,15 +9,14 @@ use borrow.Author.Tests.{ltb-true, lt-ltb, le-leb, lt-leb}
 use lib.Dec.{ltb}
 use lib.Count.{ones}
 use lib.ListN.{length, take, drop, set}
-use Rattle.rows.specs.Answer.{Answer, taken, refused, void, value_or, ◌>>=◌, ◌>>◌}
+use Rattle.rows.specs.Answer.{Answer, taken, refused, ◌>>=◌, ◌>>◌}
 use Rattle.shorthand.specs.declared.Format.{Format}
-use Rattle.shorthand.specs.Layout.{items_of, way_of, empty_format}
+use Rattle.shorthand.specs.Layout.{items_of, way_of}
 use Rattle.profile.specs.Answers.{agreed}
 use Rattle.words.specs.declared.Word.{Word}
 use Rattle.reading.specs.declared.Block.{Block}
 use Rattle.reading.specs.Record.{start_of, is_empty, words_of}
 use Rattle.reading.specs.Relation.{start_rows}
-use Rattle.reading.proofs.Numbered.{taken-value, refused-void}
 use Rattle.punching.specs.Rows.{word_rows, head_rows}
 use Rattle.punching.specs.Fits.{Fit, sequence_fits, words_fit, record_fits}
 use Rattle.punching.specs.Answers.{measured_for, written, after}
@@ -77,8 +76,8 @@ leaves buffer a n q e = (rw e, rw e)
 -- ---- under an edition, a shorthand and a profile
 
 module _ {A : Type 0} (g : Format → Answer A) (e : ℕ) (s p : List ℕ) where
-  pub under : (f : Format) → f ≡ value_or empty_format (agreed e s p) → void (agreed e s p) ≡ taken tt → (agreed e s p >>= g) ≡ g f
-  under f q h = rw (taken-value empty_format (agreed e s p) h, q)
+  pub under : (f : Format) → taken f ≡ agreed e s p → (agreed e s p >>= g) ≡ g f
+  under f q = rw (sym q)
 
-  pub under-refused : (n k : ℕ) → void (agreed e s p) ≡ refused n k → (agreed e s p >>= g) ≡ refused n k
-  under-refused n k h = rw (refused-void (agreed e s p) n k h)
+  pub under-refused : (n k : ℕ) → refused n k ≡ agreed e s p → (agreed e s p >>= g) ≡ refused n k
+  under-refused n k q = rw (sym q)

@@ -16,12 +16,12 @@ use Rattle.shorthand.specs.declared.Format.{Format}
 use Rattle.shorthand.specs.Edition.{letters, any_of}
 use Rattle.shorthand.specs.Layout as layout
 use Rattle.shorthand.specs.Layout.{items_of, way_of}
-use Rattle.shorthand.specs.Facts.{Fair, none, more, Facts}
+use Rattle.shorthand.specs.Facts.{Widths, Fair, none, more, Facts}
 use Rattle.words.specs.declared.Word.{Word}
 use Rattle.reading.specs.declared.Block.{Block}
 use Rattle.reading.specs.Record.{blank, words_of}
 use Rattle.reading.specs.Relation.{address, tab}
-use Rattle.shorthand.proofs.FormatItems.{item-at, items-end}
+use Rattle.shorthand.proofs.FormatItems.{counted, item-is, widths-at}
 use Rattle.punching.specs.Rows.{data_rows, word_rows}
 use Rattle.punching.specs.Fits.{Fit, value_fits, words_fit}
 
@@ -47,9 +47,16 @@ fair-letter none k l = absurd (not-suc-le-zero l)
 fair-letter (more {it} letter widths other rest) zero l = one_below it.letter letters letter tt
 fair-letter (more letter widths other rest) (suc k) l = fair-letter rest k (le_of_suc-le-suc l)
 
-pub letter_at : (f : Format) → Facts f → (k : ℕ) → k < f.count → (get_or f.items k layout.blank).letter < 128
-letter_at f h k l =
-    rw (get_or-take f.count f.items k layout.blank l) at (fair-letter h.fair k (omega (arith, ap (λ g. g.count) h.parts)))
+module _ (f : Format) (h : Facts f) (k : ℕ) (l : k < length (items_of f)) where
+  pub letter_at : (get_or (items_of f) k layout.blank).letter < 128
+  letter_at = fair-letter h.fair k l
+
+  pub widths_at : Widths (get_or (items_of f) k layout.blank).kind
+  widths_at = let m : k < f.count = omega (arith, counted f h) in rw (item-is f h k m) (widths-at f h k m)
+
+  -- of 22 items at most
+  pub few_at : k < 22
+  few_at = omega (arith, counted f h, h.few)
 
 -- ---- the words of a block one after the other
 
@@ -76,9 +83,9 @@ pub record Turn (f : Format) (b : Block) (k i : ℕ) (fit : Fit) (cs : List ℕ)
   pub fits : fit_left f b k i ≡ fit >> fit_left f b m j
   pub rows : rows_left f b k i ≡ cs ++ rows_left f b m j
 
-module _ (f : Format) (h : Facts f) (b : Block) (long : length b.words ≡ 22) (few : b.count ≤ 22) (k i : ℕ) where
+module _ (f : Format) (b : Block) (long : length b.words ≡ 22) (few : b.count ≤ 22) (k i : ℕ) where
   abbrev pub item_now : Item
-  item_now = get_or f.items k layout.blank
+  item_now = get_or (items_of f) k layout.blank
 
   abbrev pub word_now : Word
   word_now = get_or b.words i blank
@@ -89,9 +96,9 @@ module _ (f : Format) (h : Facts f) (b : Block) (long : length b.words ≡ 22) (
   words-over l = rw (words-end b long few i l) (refl, refl)
 
   -- after the last item no row is left
-  pub items-over : f.count ≤ k → rows_left f b k i ≡ []
+  pub items-over : length (items_of f) ≤ k → rows_left f b k i ≡ []
   unfolding word_rows
-  items-over l = rw (items-end f h k l) (by (drop i (words_of b)))
+  items-over l = rw (drop_of_length-le (items_of f) {i = k} l) (by (drop i (words_of b)))
     where
       by : (ws : List Word) → word_rows (way_of f) [] ws ≡ []
       by [] = refl
@@ -99,17 +106,20 @@ module _ (f : Format) (h : Facts f) (b : Block) (long : length b.words ≡ 22) (
 
   module _ (m : i < b.count) where
     -- and a word is refused
-    pub word-alone : f.count ≤ k → fit_left f b k i ≡ refused 16 (i + 1)
+    pub word-alone : length (items_of f) ≤ k → fit_left f b k i ≡ refused 16 (i + 1)
     unfolding words_fit
-    word-alone l = rw (items-end f h k l, word_at b long few i m)
+    word-alone l = rw (drop_of_length-le (items_of f) {i = k} l, word_at b long few i m)
 
-    module _ (l : k < f.count) where
+    module _ (l : k < length (items_of f)) where
+      item_at : drop k (items_of f) ≡ item_now ∷ drop (k + 1) (items_of f)
+      item_at = rw (add-one, drop-cons (items_of f) k layout.blank l)
+
       -- another letter: the item's word is left out, and its tab stands
       pub turn-out : (word_now.letter ≡ item_now.letter → ⊥) → Turn f b k i (taken tt) (tab (way_of f)) (k + 1) i
       unfolding words_fit word_rows
       turn-out n =
           let e = ne_eqb word_now.letter item_now.letter n in
-          record { fits = rw (item-at f h k l, word_at b long few i m, e); rows = rw (item-at f h k l, word_at b long few i m, e) }
+          record { fits = rw (item_at, word_at b long few i m, e); rows = rw (item_at, word_at b long few i m, e) }
 
       -- its letter: the tab, the address and the data
       pub turn_in : word_now.letter ≡ item_now.letter
@@ -117,7 +127,7 @@ module _ (f : Format) (h : Facts f) (b : Block) (long : length b.words ≡ 22) (
       unfolding words_fit word_rows
       turn_in same =
           let e = eq-eqb word_now.letter item_now.letter same in
-          record { fits = rw (item-at f h k l, word_at b long few i m, e, add-one (i + 1)); rows = rw (item-at f h k l, word_at b long few i m, e, append_assoc, append_assoc) }
+          record { fits = rw (item_at, word_at b long few i m, e, add-one (i + 1)); rows = rw (item_at, word_at b long few i m, e, append_assoc, append_assoc) }
 
 -- ---- measuring in turns
 
@@ -133,14 +143,14 @@ behind-none (refused n p) = refl
 abbrev pub measured_left : Format → Block → ℕ → ℕ → Answer ℕ
 measured_left f b k i = fit_left f b k i >> taken (length (rows_left f b k i))
 
-module _ (f : Format) (h : Facts f) (b : Block) (long : length b.words ≡ 22) (few : b.count ≤ 22) (k i n : ℕ) where
+module _ (f : Format) (b : Block) (long : length b.words ≡ 22) (few : b.count ≤ 22) (k i n : ℕ) where
   -- after the last word the rows so far are the answer
   pub measured-over : b.count ≤ i → behind n (measured_left f b k i) ≡ taken n
-  measured-over l = let o = words-over f h b long few k i l in rw (o.0, o.1) (ap taken (add-zero n))
+  measured-over l = let o = words-over f b long few k i l in rw (o.0, o.1) (ap taken (add-zero n))
 
   -- after the last item a word is refused
-  pub measured-alone : i < b.count → f.count ≤ k → behind n (measured_left f b k i) ≡ refused 16 (i + 1)
-  measured-alone m l = rw (word-alone f h b long few k i m l)
+  pub measured-alone : i < b.count → length (items_of f) ≤ k → behind n (measured_left f b k i) ≡ refused 16 (i + 1)
+  measured-alone m l = rw (word-alone f b long few k i m l)
 
 module _ {f : Format} {b : Block} {k i m j : ℕ} {fit : Fit} {cs : List ℕ} (t : Turn f b k i fit cs m j) (n : ℕ) where
   -- a turn that fits adds its rows

@@ -1,13 +1,10 @@
 -- What measuring, writing and punching answer, and what they leave in the buffer: 1, 2 and 3, 22 and 23, the record, then 19 (documents 01, "Refusal numbers", and
 -- 02, 2/12 and 6/12).
 use Rattle.std.specs.Prelude.{ℕ, cond, List, ◌++◌, leb, length, drop}
-use Rattle.rows.specs.Answer.{Answer, taken, refused, refusal, ◌>>=◌, ◌>>◌}
+use Rattle.rows.specs.Answer.{Answer, taken, refused, ◌>>=◌, ◌>>◌}
 use Rattle.shorthand.specs.declared.Format.{Format}
 use Rattle.profile.specs.Answers.{agreed}
 use Rattle.reading.specs.declared.Block.{Block}
-use Rattle.punching.specs.declared.Measured.{Measured}
-use Rattle.punching.specs.declared.Punched.{Punched}
-use Rattle.punching.specs.declared.Punched.TheVariants.{Rows}
 use Rattle.punching.specs.Rows.{rows_of, head_rows}
 use Rattle.punching.specs.Fits.{record_fits}
 
@@ -49,13 +46,3 @@ written a = a >>= λ rows. taken (length rows)
 abbrev pub after : List ℕ → Answer (List ℕ) → List ℕ
 after buffer (taken rows) = rows ++ drop (length rows) buffer
 after buffer (refused n p) = buffer
-
--- what each case of `Measured` says
-abbrev pub measured_told : Measured → Answer ℕ
-measured_told (Measured.Rows n) = taken n
-measured_told (Measured.Refused r) = refusal r
-
--- what each case of `Punched` says
-abbrev pub punched_told : Punched → Answer ℕ
-punched_told (Rows n) = taken n
-punched_told (Punched.Refused r) = refusal r

@@ -1,8 +1,6 @@
 -- Which records are refused, and where (documents 01, refusals 16, 17, 18 and the order of punching, and 02, 5/12).
-use Rattle.std.specs.Prelude.{ℕ, suc, ◌^◌, Bool, ◌&&◌, not, cond, List, [], ◌∷◌, eqb, leb, ltb, nat_abs}
+use Rattle.std.specs.Prelude.{ℕ, suc, ◌^◌, Bool, ◌&&◌, not, cond, Option, Some, None, List, [], ◌∷◌, eqb, leb, ltb, nat_abs}
 use Rattle.rows.specs.Answer.{Answer, taken, refused, ◌>>◌}
-use Rattle.speeds.specs.declared.Exact.{Exact}
-use Rattle.speeds.specs.declared.Exact.TheVariants.{Inexact, Means}
 use Rattle.speeds.specs.Coding.{exact_for}
 use Rattle.shorthand.specs.declared.Kind.{Kind}
 use Rattle.shorthand.specs.declared.Kind.TheVariants.{Plain}
@@ -24,9 +22,9 @@ abbrev pub unless : Bool → ℕ → ℕ → Fit
 unless ok n p = cond ok (taken tt) (refused n p)
 
 -- a speed has an exact code, or 18
-abbrev pub coded : ℕ → Exact → Fit
-coded i (Means c) = taken tt
-coded i Inexact = refused 18 i
+abbrev pub coded : ℕ → Option ℕ → Fit
+coded i (Some c) = taken tt
+coded i None = refused 18 i
 
 -- word i by its item's kind: a wrong kind is 16; a number that does not fit, or negative without sign, is 17; a speed without exact code is 18
 abbrev pub value_fits : ℕ → Kind → Value → Fit
@@ -47,6 +45,10 @@ words_fit i its [] = taken tt
 words_fit i [] (w ∷ ws) = refused 16 i
 words_fit i (it ∷ its) (w ∷ ws) =
     cond (eqb w.letter it.letter) (value_fits i it.kind w.value >> words_fit (suc i) its ws) (words_fit i its (w ∷ ws))
+
+-- all words of a record
+abbrev pub all_fit : Format → Block → Fit
+all_fit f b = words_fit 1 (items_of f) (words_of b)
 
 -- a number that does not fit its item is 17; without one, an alignment block, an empty one, and any where there must be a number is 16
 abbrev pub sequence_fits : Format → Block → Fit

@@ -1,9 +1,7 @@
 -- The rows that the punch writes (documents 01, "The record", punching, and 02, 5/12): full digits, a sign in every signed item, tabs only up to the last word,
 -- no addresses where items are known by their tabs alone, even parity.
-use Rattle.std.specs.Prelude.{ℕ, ◌+◌, Bool, true, false, cond, List, [], ◌∷◌, ◌++◌, map, eqb, ℤ, pos, negsuc, nat_abs}
+use Rattle.std.specs.Prelude.{ℕ, ◌+◌, Bool, true, false, cond, Option, Some, None, List, [], ◌∷◌, ◌++◌, map, eqb, ℤ, pos, negsuc, nat_abs}
 use Rattle.rows.specs.Row.{even}
-use Rattle.speeds.specs.declared.Exact.{Exact}
-use Rattle.speeds.specs.declared.Exact.TheVariants.{Inexact, Means}
 use Rattle.speeds.specs.Coding.{exact_for}
 use Rattle.shorthand.specs.declared.Kind.{Kind}
 use Rattle.shorthand.specs.declared.Kind.TheVariants.{Plain}
@@ -32,9 +30,9 @@ sign_rows barred z = []
 sign_rows required z = cond (minus z) 45 43 ∷ []
 sign_rows optional z = cond (minus z) 45 43 ∷ []
 
-abbrev pub code_rows : ℕ → Exact → List ℕ
-code_rows k (Means c) = digits k c
-code_rows k Inexact = []
+abbrev pub code_rows : ℕ → Option ℕ → List ℕ
+code_rows k (Some c) = digits k c
+code_rows k None = []
 
 -- a word's data at full length; nothing where the kinds differ, which is refused
 abbrev pub data_rows : Kind → Value → List ℕ
@@ -54,6 +52,10 @@ word_rows y its [] = []
 word_rows y [] (w ∷ ws) = []
 word_rows y (it ∷ its) (w ∷ ws) =
     tab y ++ cond (eqb w.letter it.letter) (address y it ++ (data_rows it.kind w.value ++ word_rows y its ws)) (word_rows y its (w ∷ ws))
+
+-- the words of a block
+abbrev pub words_rows : Format → Block → List ℕ
+words_rows f b = word_rows (way_of f) (items_of f) (words_of b)
 
 -- a block's characters, LF for its end
 unfoldable pub block_chars : Format → Block → List ℕ

@@ -4,27 +4,20 @@ ghost use Rattle.rows.specs.Answer.{told};
 ghost use Rattle.shorthand.specs.declared.Kind.{Kind};
 ghost use Rattle.shorthand.specs.declared.Kind.TheVariants.{Plain};
 ghost use Rattle.shorthand.specs.Layout.{items_of, way_of, mark_sign};
-ghost use Rattle.shorthand.specs.Facts.{Facts, Widths};
+ghost use Rattle.shorthand.specs.Facts.{Widths};
 ghost use Rattle.words.specs.Figures.{may_stand};
 ghost use Rattle.reading.specs.Record.{start_of, words_of};
 ghost use Rattle.reading.specs.Relation.{start_rows};
 ghost use Rattle.punching.specs.Fits.{sequence_fits};
-ghost use Rattle.punching.specs.Answers.{measured_for, measured_told};
+ghost use Rattle.punching.specs.Answers.{measured_for};
 ghost use Rattle.punching.specs.Line.{data_measured, words_measured};
 
-use crate::Measured;
-use crate::line::{magnitude_of, ten};
+use crate::line::magnitude_of;
 use reading::Block;
-use rows::{Checked, Refusal};
-use shorthand::{Figures, Format, Kind, Mark};
-use speeds::Exact;
+use rows::{Cause, Refusal};
+use shorthand::{Figures, Kind, Mark, Usable};
+use speeds::ten;
 use words::Value;
-
-fn refuse(number: u32, place: usize) -> Measured
-    ensures { result ≡ Measured.Refused (record { number = number; place = place }) }
-{
-    Measured::Refused(Refusal { number, place })
-}
 
 // Whether an item's words have a sign: in either edition by the mark alone.
 pub(crate) fn is_signed(mark: Mark) -> bool
@@ -38,61 +31,61 @@ pub(crate) fn is_signed(mark: Mark) -> bool
 }
 
 // A plain number: 16 for another kind, 17 for more digits than the item has.
-fn measure_plain(n: u8, value: Value, word: usize) -> Measured
+fn measure_plain(n: u8, value: Value, word: usize) -> Result<usize, Refusal>
     requires { n ≤ 9 }
-    ensures { measured_told result ≡ data_measured word (Plain n) value }
+    ensures { told result ≡ data_measured word (Plain n) value }
 {
     let Value::Number(v) = value else {
-        return refuse(16, word);
+        return Err(Cause::Record.at(word));
     };
     let width = n as usize;
     if ten(width) <= v {
-        return refuse(17, word);
+        return Err(Cause::Unfit.at(word));
     }
-    Measured::Rows(width)
+    Ok(width)
 }
 
 // A speed by its exact code: one that has none, rounded or no rate, is 18.
-fn measure_speed(k: u8, value: Value, word: usize) -> Measured
+fn measure_speed(k: u8, value: Value, word: usize) -> Result<usize, Refusal>
     requires { (2 ≤ k) × (k ≤ 5) }
-    ensures { measured_told result ≡ data_measured word (Kind.Speed k) value }
+    ensures { told result ≡ data_measured word (Kind.Speed k) value }
 {
     let Value::Speed(speed) = value else {
-        return refuse(16, word);
+        return Err(Cause::Record.at(word));
     };
-    let Exact::Means(_) = speeds::exact_code(k as u32, speed) else {
-        return refuse(18, word);
+    let Some(_) = speeds::exact_code(k as u32, speed) else {
+        return Err(Cause::InexactSpeed.at(word));
     };
-    Measured::Rows(k as usize)
+    Ok(k as usize)
 }
 
 // A dimension: 17 for too large a magnitude, or a minus where no sign may stand; a sign in every signed item.
-fn measure_dimension(d: Figures, value: Value, word: usize) -> Measured
+fn measure_dimension(d: Figures, value: Value, word: usize) -> Result<usize, Refusal>
     requires { Widths (Kind.Dimension d) }
-    ensures { measured_told result ≡ data_measured word (Kind.Dimension d) value }
+    ensures { told result ≡ data_measured word (Kind.Dimension d) value }
 {
     let Value::Dimension(z) = value else {
-        return refuse(16, word);
+        return Err(Cause::Record.at(word));
     };
     let width = d.before as usize + d.after as usize;
     let mark = d.mark;
     let m = magnitude_of(z);
     if ten(width) <= m.size {
-        return refuse(17, word);
+        return Err(Cause::Unfit.at(word));
     }
     if is_signed(mark) {
-        return Measured::Rows(width + 1);
+        return Ok(width + 1);
     }
     if m.minus {
-        return refuse(17, word);
+        return Err(Cause::Unfit.at(word));
     }
-    Measured::Rows(width)
+    Ok(width)
 }
 
 // The data of word i by its item's kind.
-fn measure_data(kind: Kind, value: Value, word: usize) -> Measured
+fn measure_data(kind: Kind, value: Value, word: usize) -> Result<usize, Refusal>
     requires { Widths kind }
-    ensures { measured_told result ≡ data_measured word kind value }
+    ensures { told result ≡ data_measured word kind value }
 {
     match kind {
         Kind::Plain(n) => measure_plain(n, value, word),
@@ -102,12 +95,11 @@ fn measure_data(kind: Kind, value: Value, word: usize) -> Measured
 }
 
 // The words of a block in the items' order, with tabs up to the last of them.
-fn measure_words(format: Format, block: Block) -> Measured
-    requires { (Facts format) × (block.count ≤ 22) }
-    ensures { measured_told result ≡ words_measured 1 (way_of format) (items_of format) (words_of block) }
+fn measure_words(usable: Usable, block: Block) -> Result<usize, Refusal>
+    requires { block.count ≤ 22 }
+    ensures { told result ≡ words_measured 1 (way_of usable.format) (items_of usable.format) (words_of block) }
 {
-    let items = format.count;
-    let words = block.count;
+    let format = &usable.format;
     let tab: usize = if format.dots { 1 } else { 0 };
     let address: usize = if format.dots & !format.addresses {
         0
@@ -115,52 +107,40 @@ fn measure_words(format: Format, block: Block) -> Measured
         1
     };
     let mut rows: usize = 0;
+    // Stays so: i is counted by hand: an item may have no word, so that items and words go on apart
     let mut i: usize = 0;
-    let mut k: usize = 0;
-    while i < words {
-        if items <= k {
-            return refuse(16, i + 1);
+    for item in &format.items[..format.count] {
+        if block.count <= i {
+            break;
         }
-        let item = format.items[k];
-        let word = block.words[i];
-        k += 1;
         rows += tab;
-        if word.letter != item.letter {
-            continue;
+        let word = block.words[i];
+        if word.letter == item.letter {
+            i += 1;
+            rows += address + measure_data(item.kind, word.value, i)?;
         }
-        i += 1;
-        let kind = item.kind;
-        let value = word.value;
-        let answer = measure_data(kind, value, i);
-        let Measured::Rows(data) = answer else {
-            return answer;
-        };
-        rows += address + data;
     }
-    Measured::Rows(rows)
+    if i < block.count {
+        return Err(Cause::Record.at(i + 1));
+    }
+    Ok(rows)
 }
 
 // The number of a block fits its item, or 17; one without number may have none, is no alignment block and has a word, or 16.
-fn judge_sequence(format: Format, block: Block) -> Checked
-    requires { Facts format }
-    ensures { told result ≡ sequence_fits format block }
+fn judge_sequence(usable: Usable, block: Block) -> Result<(), Refusal>
+    ensures { told result ≡ sequence_fits usable.format block }
 {
+    let format = &usable.format;
     if block.numbered {
         if ten(format.sequence as usize) <= block.sequence {
-            return Checked::Refused(Refusal {
-                number: 17,
-                place: 0,
-            });
+            return Err(Cause::Unfit.at(0));
         }
-        return Checked::Clean;
+        return Ok(());
     }
     if format.unnumbered & !block.alignment & (0 < block.count) {
-        return Checked::Clean;
+        return Ok(());
     }
-    Checked::Refused(Refusal {
-        number: 16,
-        place: 0,
-    })
+    Err(Cause::Record.at(0))
 }
 
 // "/" or not, and N or ":" and the number, or no number.
@@ -174,19 +154,13 @@ fn measure_start(digits: usize, block: Block) -> usize
 }
 
 // A whole record: its count, its sequence and then its words are judged, in this order; behind its start and its words stands an LF.
-pub fn measure_under(format: Format, block: Block) -> Measured
-    requires { Facts format }
-    ensures { measured_told result ≡ measured_for format block }
+pub fn measure_under(usable: Usable, block: Block) -> Result<usize, Refusal>
+    ensures { told result ≡ measured_for usable.format block }
 {
     if 22 < block.count {
-        return refuse(16, 23);
+        return Err(Cause::Record.at(23));
     }
-    if let Checked::Refused(r) = judge_sequence(format, block) {
-        return Measured::Refused(r);
-    }
-    let answer = measure_words(format, block);
-    let Measured::Rows(words) = answer else {
-        return answer;
-    };
-    Measured::Rows(measure_start(format.sequence as usize, block) + words + 1)
+    judge_sequence(usable, block)?;
+    let words = measure_words(usable, block)?;
+    Ok(measure_start(usable.format.sequence as usize, block) + words + 1)
 }

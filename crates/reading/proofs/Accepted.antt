@@ -11,7 +11,7 @@ use Rattle.rows.specs.Kept.{kept}
 use Rattle.shorthand.specs.declared.Format.{Format}
 use Rattle.words.specs.Figures.{Behind}
 use Rattle.parts.specs.Ends.{entered}
-use Rattle.reading.specs.Parse.{Entry}
+use Rattle.reading.specs.declared.Entry.{Entry}
 use Rattle.reading.specs.Answers.{nowhere, program_at, read}
 use Rattle.reading.proofs.Programs.{both-taken}
 use Rattle.reading.proofs.Places.{Places, places}

@@ -15,7 +15,7 @@ use Rattle.words.specs.declared.Word.{Word}
 use Rattle.parts.specs.declared.Begun.{Begun}
 use Rattle.parts.specs.Items.{turn, any_turn, bare_in}
 use Rattle.reading.specs.Record.{is_empty}
-use Rattle.reading.specs.Relation.{address, word, tab, Words, done, out, here, chars}
+use Rattle.reading.specs.Relation.{address, word, tab, Words, out, here, chars}
 use Rattle.reading.proofs.RowsAhead.{heads}
 use Rattle.reading.proofs.WordsTake.{fails}
 

@@ -1,15 +1,15 @@
 -- The answer of rows behind a head is the answer of those rows alone, moved by the head's length.
 use Prim.Native.Nat.{ℕ, ◌+◌, ◌≤◌}
-use mathlib.Core.Path.{◌≡◌, refl, sym, ap, ◌∙◌}
+use mathlib.Core.Path.{◌≡◌, refl, ap, ◌∙◌}
 use mathlib.Core.List.{List, ◌++◌, map}
 use native.Mathlib.Omega.{arith}
 use lib.ListN.{length, length-append, length-map}
 use Rattle.rows.specs.Answer.{Answer, taken, refused, ◌>>◌}
-use Rattle.rows.specs.Kept.{KeptRow, kept}
+use Rattle.rows.specs.Kept.{kept}
 use Rattle.rows.specs.Passes.{Passes}
 use Rattle.rows.specs.Stages.{limit, judged}
 use Rattle.shorthand.specs.declared.Format.{Format}
-use Rattle.reading.specs.Parse.{Entry, blocks_at}
+use Rattle.reading.specs.Parse.{blocks_at}
 use Rattle.reading.specs.Answers.{program_at, read}
 use Rattle.reading.specs.Survey.{alone}
 use Rattle.reading.proofs.ReadBlocks.{HeadRows}

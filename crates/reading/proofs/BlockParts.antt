@@ -16,7 +16,7 @@ use Rattle.rows.proofs.TapeParts.{divided-at}
 use Rattle.shorthand.specs.declared.Format.{Format}
 use Rattle.reading.specs.declared.Block.{Block}
 use Rattle.reading.specs.Relation.{End, lf, cr_lf, start_rows, Blocked, block, chars}
-use Rattle.reading.specs.Parse.{Entry}
+use Rattle.reading.specs.declared.Entry.{Entry}
 use Rattle.reading.specs.Answers.{nowhere, program_at, entry_rows}
 use Rattle.reading.proofs.Outcomes.{chars-append}
 use Rattle.reading.proofs.ReadBlocks.{Last, last, before, Entries}

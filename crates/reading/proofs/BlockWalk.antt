@@ -15,7 +15,8 @@ use Rattle.rows.specs.Stages.{judged}
 use Rattle.rows.specs.Kept.{KeptRow, kept}
 use Rattle.shorthand.specs.declared.Format.{Format}
 use Rattle.words.specs.Figures.{Behind, taking}
-use Rattle.reading.specs.Parse.{BlockRead, Entry, entry, block_at, blocks_at}
+use Rattle.reading.specs.declared.Entry.{Entry}
+use Rattle.reading.specs.Parse.{BlockRead, block_at, blocks_at}
 use Rattle.parts.specs.Ends.{head_at, entered}
 use Rattle.reading.specs.Answers.{nowhere, program_at, read}
 use Rattle.reading.specs.Front.{Rising}

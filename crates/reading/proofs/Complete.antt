@@ -10,7 +10,8 @@ use Rattle.shorthand.specs.declared.Format.{Format}
 use Rattle.shorthand.specs.Facts.{Facts}
 use Rattle.reading.specs.declared.Block.{Block}
 use Rattle.reading.specs.Relation.{Blocks, none, more, Program, program, chars}
-use Rattle.reading.specs.Parse.{Entry, entry, block_at, blocks_at}
+use Rattle.reading.specs.declared.Entry.{Entry}
+use Rattle.reading.specs.Parse.{entry, block_at, blocks_at}
 use Rattle.reading.specs.Answers.{program_at}
 use Rattle.reading.proofs.RowsAhead.{Takes}
 use Rattle.reading.proofs.BlockTakes.{head-takes, block-takes, block-some}

@@ -2,12 +2,12 @@
 use mathlib.Core.Path.{◌≡◌, refl, sym, ap, ◌∙◌}
 use mathlib.Core.Bool.{false, cond}
 use mathlib.Core.List.{List, [], ◌∷◌, ◌++◌}
-use Prim.Native.Nat.{ℕ, ◌+◌, ◌≤◌, ◌<◌}
+use Prim.Native.Nat.{ℕ, ◌+◌, ◌<◌}
 use native.Mathlib.Nat.{le_refl}
 use native.Mathlib.Omega.{arith}
 use lib.Dec.{eqb}
 use lib.ListN.{length, get_or, length-append}
-use Rattle.rows.specs.Answer.{Answer, taken, refusal}
+use Rattle.rows.specs.Answer.{Answer, taken, refused}
 use Rattle.rows.specs.Kept.{KeptRow}
 use Rattle.shorthand.specs.declared.Format.{Format}
 use Rattle.words.specs.declared.Word.{Word}
@@ -16,11 +16,8 @@ use Rattle.reading.specs.declared.Part.{Part}
 use Rattle.parts.specs.declared.Rules.{Rules}
 use Rattle.steps.specs.declared.Event.{Event}
 use Rattle.steps.specs.declared.Event.TheVariants.{Finished, Opened, Out, Read, Closed}
-use Rattle.steps.specs.contracts.Event.{the_type}
-use denote.Enum.Declared.{tag_of}
-use types.Run.{OneOf}
-use mathlib.Core.Logic.{⊎_elim}
-use Rattle.reading.specs.Parse.{Entry, blocks_at}
+use Rattle.reading.specs.declared.Entry.{Entry}
+use Rattle.reading.specs.Parse.{blocks_at}
 use Rattle.reading.specs.Answers.{nowhere, size_of}
 use Rattle.reading.specs.Front.{part_of, part_in, Rising}
 use Rattle.reading.specs.Survey.{no_rows, last_part, surveyed_from, last_in}
@@ -28,7 +25,7 @@ use Rattle.parts.specs.Starts.{unnumbered}
 use Rattle.parts.specs.Items.{item_at}
 use Rattle.steps.specs.Steps.{Spot, Moved, between, step_at}
 use Rattle.reading.proofs.BlockWalk.{nth-more}
-use Rattle.reading.proofs.StepLaws.{more-come, Under, entry_of, Walk, walk-starts, Further, Goes, goes, effort}
+use Rattle.reading.proofs.StepLaws.{more-come, Under, entry_of, Walk, walk-starts, Further, Goes, goes, halts, effort}
 
 -- of some blocks and one behind them that one is the last
 pub last_more : (p : Part) (es : List Entry) (x : Entry) → last_part p (es ++ (x ∷ [])) ≡ part_of x
@@ -50,7 +47,7 @@ module _ (w n : ℕ) (f : Format) (first : ℕ) (start : List KeptRow) where
     pub asked : part ≡ part_of (get_or done w nowhere)
     pub ended : last ≡ last_part (no_rows first) done
 
-  abbrev Told : Answer ℕ → Part → Part → Type 0
+  abbrev pub Told : Answer ℕ → Answer Part → Answer Part → Type 0
   Told count part last =
       (count ≡ size_of (blocks_at (length start) n f first start))
       × ((part ≡ part_in w (blocks_at (length start) n f first start)) × (last ≡ last_in (surveyed_from first (blocks_at (length start) n f first start))))
@@ -66,11 +63,10 @@ module _ (w n : ℕ) (f : Format) (first : ℕ) (start : List KeptRow) where
 
   -- what holds behind a step
   abbrev pub Behind : Spot → ℕ → Part → Part → Spot → Event → Type 0
-  Behind s count part last v Finished = Told (taken count) part last
+  Behind s count part last v Finished = Told (taken count) (taken part) (taken last)
   Behind s count part last v (Closed lf) =
       ((now : Part) → now ≡ cond (eqb count w) (record { from = last.to; to = lf + 1 }) part → Counts v (count + 1) now (record { from = last.to; to = lf + 1 }))
       × (effort n (lf + 1) v.stage v.item < effort n last.to s.stage s.item) × (count < n) × (lf < n)
-  Behind s count part last v (Event.Refused r) = (none : Part) → none ≡ no_rows 0 → Told (refusal r) none none
   Behind s count part last v (Opened b) = On s count part last v
   Behind s count part last v Out = On s count part last v
   Behind s count part last v (Read x) = On s count part last v
@@ -79,12 +75,18 @@ module _ (w n : ℕ) (f : Format) (first : ℕ) (start : List KeptRow) where
     on : {begun : Begun} {words : List Word} {fuel : ℕ} {v : Spot} → Further n f (length start) first start g.done begun words fuel last.to last.to s v → On s count part last v
     on {begun} {words} {fuel} o = (record { done = g.done; begun = begun; words = words; fuel = fuel; walk = o.walk; counted = g.counted; asked = g.asked; ended = g.ended }, o.nearer)
 
-    pub counts-on : (m : Moved) → m ≡ step_at n u leads (item_at f s.item) s → (e : Event) → m.event ≡ e → Behind s count part last m.spot e
+    -- a step's refusal is that of all blocks
+    pub counts-halt : (m p : ℕ) → refused m p ≡ step_at n u leads (item_at f s.item) s → Told (refused m p) (refused m p) (refused m p)
+    counts-halt m p e =
+        let o = halts n f (length start) first start h g.walk (more-come n f (length start) first start g.walk (le_refl _)) m p e in
+        (sym (ap size_of o), (sym (ap (part_in w) o), sym (ap (λ a. last_in (surveyed_from first a)) o)))
+
+    pub counts-on : (m : Moved) → taken m ≡ step_at n u leads (item_at f s.item) s → (e : Event) → m.event ≡ e → Behind s count part last m.spot e
     counts-on m q e r = by e (goes n f (length start) first start h g.walk (more-come n f (length start) first start g.walk (le_refl _)) m q e r)
       where
         by : (v : Event) → Goes n f (length start) first start g.done g.begun g.words g.fuel last.to s m.spot v → Behind s count part last m.spot v
         by Finished o =
-            (ap taken g.counted ∙ sym (ap size_of o.0), (g.asked ∙ sym (ap (part_in w) o.0), g.ended ∙ sym (ap (λ a. last_in (surveyed_from first a)) o.0)))
+            (ap taken g.counted ∙ sym (ap size_of o.0), (ap taken g.asked ∙ sym (ap (part_in w) o.0), ap taken g.ended ∙ sym (ap (λ a. last_in (surveyed_from first a)) o.0)))
         by (Opened b) o = on o.2
         by Out o = on o
         by (Read x) o = on o.0
@@ -104,20 +106,14 @@ module _ (w n : ℕ) (f : Format) (first : ℕ) (start : List KeptRow) where
               omega (arith, g.counted, g.walk.below, o.1, o.2),
               o.2,
             )
-        by (Event.Refused r) o = λ none z. (sym (ap size_of o), (z ∙ sym (ap (part_in w) o), z ∙ sym (ap (λ a. last_in (surveyed_from first a)) o)))
 
-    -- the three events that end nothing
-    quiet : (x : ℕ) → OneOf (1 ∷ 2 ∷ 3 ∷ []) x → (1 ≤ x) × (x ≤ 3)
-    quiet x t =
-        ⊎_elim (λ e. (omega (arith, e), omega (arith, e))) (⊎_elim (λ e. (omega (arith, e), omega (arith, e))) (λ e. (omega (arith, e), omega (arith, e)))) t
-
-    pub counts-quiet : (m : Moved) → m ≡ step_at n u leads (item_at f s.item) s → OneOf (1 ∷ 2 ∷ 3 ∷ []) (tag_of the_type m.event) → On s count part last m.spot
-    counts-quiet m q t = by m.event (quiet _ t) (counts-on m q m.event refl)
+    -- the events that end nothing
+    pub counts-quiet : (m : Moved) → taken m ≡ step_at n u leads (item_at f s.item) s → (m.event ≡ Finished → ⊥) → ((lf : ℕ) → m.event ≡ Closed lf → ⊥) → On s count part last m.spot
+    counts-quiet m q unfinished unclosed = by m.event refl (counts-on m q m.event refl)
       where
-        by : (v : Event) → (1 ≤ tag_of the_type v) × (tag_of the_type v ≤ 3) → Behind s count part last m.spot v → On s count part last m.spot
-        by Finished l o = absurd (omega (arith, l))
-        by (Opened b) l o = o
-        by Out l o = o
-        by (Read x) l o = o
-        by (Closed lf) l o = absurd (omega (arith, l))
-        by (Event.Refused r) l o = absurd (omega (arith, l))
+        by : (v : Event) → m.event ≡ v → Behind s count part last m.spot v → On s count part last m.spot
+        by Finished e o = absurd (unfinished e)
+        by (Opened b) e o = o
+        by Out e o = o
+        by (Read x) e o = o
+        by (Closed lf) e o = absurd (unclosed lf e)

@@ -14,7 +14,8 @@ use Rattle.words.specs.Figures.{Behind, taking}
 use Rattle.parts.specs.Ends.{head_at}
 use Rattle.reading.specs.declared.Block.{Block}
 use Rattle.reading.specs.Relation.{Blocked, chars}
-use Rattle.reading.specs.Parse.{BlockRead, Entry, entry, block_at, blocks_at}
+use Rattle.reading.specs.declared.Entry.{Entry}
+use Rattle.reading.specs.Parse.{BlockRead, entry, block_at, blocks_at}
 use Rattle.reading.specs.Answers.{program_at}
 use Rattle.reading.proofs.Outcomes.{Reads, chars-append}
 use Rattle.reading.proofs.BlockTakes.{head-takes, block-takes}

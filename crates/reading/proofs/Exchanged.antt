@@ -20,7 +20,7 @@ use Rattle.shorthand.specs.declared.Format.{Format}
 use Rattle.shorthand.specs.Facts.{Facts}
 use Rattle.words.specs.Figures.{Behind}
 use Rattle.parts.specs.Ends.{entered}
-use Rattle.reading.specs.Parse.{Entry}
+use Rattle.reading.specs.declared.Entry.{Entry}
 use Rattle.reading.specs.Answers.{nowhere, program_at, read}
 use Rattle.reading.proofs.ReadBlocks.{HeadRows, Entries, none, ProgramRows}
 use Rattle.reading.proofs.Sound.{taken-rows}

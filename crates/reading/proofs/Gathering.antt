@@ -5,7 +5,7 @@ use mathlib.Core.List.{List, [], ◌∷◌, ◌++◌}
 use Prim.Native.Nat.{ℕ, ◌+◌, ◌<◌}
 use native.Mathlib.Omega.{arith}
 use lib.ListN.{length, set, length-append}
-use Rattle.rows.specs.Answer.{Answer, taken, refused, refusal, value_or, ◌>>=◌}
+use Rattle.rows.specs.Answer.{Answer, taken, refused, value_or, ◌>>=◌}
 use Rattle.rows.specs.Kept.{KeptRow}
 use Rattle.shorthand.specs.declared.Format.{Format}
 use Rattle.shorthand.proofs.Padded.{padded-set}
@@ -23,10 +23,11 @@ use Rattle.reading.specs.declared.Block.{Block}
 use Rattle.parts.proofs.BareFronts.{bare-none}
 use Rattle.reading.specs.Record.{block_of, empty_block}
 use Rattle.reading.specs.Record.{blank as no_word}
-use Rattle.reading.specs.Parse.{BlockRead, Entry, entry, block_at, blocks_at}
+use Rattle.reading.specs.declared.Entry.{Entry}
+use Rattle.reading.specs.Parse.{BlockRead, entry, block_at, blocks_at}
 use Rattle.reading.specs.Front.{Rising}
 use Rattle.reading.proofs.Outcomes.{never}
-use Rattle.reading.proofs.StepLaws.{Under, open_in, Walk, walk-starts, walk-full, Goes, goes, effort}
+use Rattle.reading.proofs.StepLaws.{Under, open_in, Walk, walk-starts, walk-full, Goes, goes, halts, effort}
 
 -- one word more in the block
 abbrev pub one_more : Block → Word → Block
@@ -108,15 +109,18 @@ module _ (n : ℕ) (f : Format) (from : ℕ) (start : List KeptRow) where
   After s block v Out = Gathers v block × Nearer v s
   After s block v (Read w) = (block.count < 22) × ((next : Block) → next ≡ one_more block w → Gathers v next) × Nearer v s
   After s block v (Closed lf) = (one_from n f from start ≡ taken (record { block = block; from = from; to = lf + 1 })) × (lf < n)
-  After s block v (Event.Refused r) = one_from n f from start ≡ refusal r
 
   module _ {u : Rules} {leads : List ℕ} (h : Under f u leads) {s : Spot} {block : Block} (g : Gathers s block) where
-    pub gathers-on : (m : Moved) → m ≡ step_at n u leads (item_at f s.item) s → (e : Event) → m.event ≡ e → After s block m.spot e
+    spare : {b : Begun} {ws : List Word} {fuel : ℕ} → Walk n f 1 from start [] b ws fuel from s → s.stage ≡ Between → 0 < fuel
+    spare w z = omega (arith, w.room, ap open_in z)
+
+    -- a step's refusal is that of the block
+    pub gathers-halt : (m p : ℕ) → refused m p ≡ step_at n u leads (item_at f s.item) s → one_from n f from start ≡ refused m p
+    gathers-halt m p e = one-refused n f from start m p (halts n f 1 from start h g.walk (λ z l. spare g.walk z) m p e)
+
+    pub gathers-on : (m : Moved) → taken m ≡ step_at n u leads (item_at f s.item) s → (e : Event) → m.event ≡ e → After s block m.spot e
     gathers-on m q e r = by e (goes n f 1 from start h g.walk (λ z l. spare g.walk z) m q e r)
       where
-        spare : {b : Begun} {ws : List Word} {fuel : ℕ} → Walk n f 1 from start [] b ws fuel from s → s.stage ≡ Between → 0 < fuel
-        spare w z = omega (arith, w.room, ap open_in z)
-
         by : (v : Event) → Goes n f 1 from start [] g.begun g.words g.fuel from s m.spot v → After s block m.spot v
         by Finished o = one_none n f from start o.0
         by (Opened b) o = ((λ next z. record { begun = b; words = []; fuel = o.0; walk = o.2.walk; stored = z }), o.2.nearer)
@@ -133,4 +137,3 @@ module _ (n : ℕ) (f : Format) (from : ℕ) (start : List KeptRow) where
           o.0.nearer,
         )
         by (Closed lf) o = (rw g.stored (one-taken n f from start _ (walk-full n f 1 from start o.0.walk refl)), o.2)
-        by (Event.Refused r) o = one-refused n f from start _ _ o

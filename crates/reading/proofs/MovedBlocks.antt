@@ -16,7 +16,8 @@ use Rattle.parts.specs.Ends.{close_at}
 use Rattle.parts.specs.Starts.{start_at}
 use Rattle.parts.specs.Items.{Standing, stops, out, at, standing, bare_in}
 use Rattle.reading.specs.Record.{is_empty}
-use Rattle.reading.specs.Parse.{resumed, words_at, BlockRead, words_and_end, block_at, Entry, blocks_at}
+use Rattle.reading.specs.declared.Entry.{Entry}
+use Rattle.reading.specs.Parse.{resumed, words_at, BlockRead, words_and_end, block_at, blocks_at}
 use Rattle.reading.proofs.MovedRows.{moved, moved_row}
 use Rattle.reading.proofs.MovedParsers.{moved_behind, same, further, moved_standing, then-moved, bare-moved, standing-moved, word_moved, close-moved, start-moved}
 

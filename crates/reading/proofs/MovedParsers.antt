@@ -1,7 +1,7 @@
 -- The parsers of words and of a block's parts on rows that stand d places further on: they answer the same, and every place, of a refusal too, is moved by d.
 use Prim.Native.Nat.{ℕ, zero, suc, ◌+◌, ◌*◌, ◌-◌}
 use mathlib.Core.Path.{◌≡◌, refl}
-use mathlib.Core.Bool.{Bool, true, false, ◌&&◌, ◌||◌, not, cond}
+use mathlib.Core.Bool.{Bool, true, false, ◌&&◌, ◌||◌, not}
 use mathlib.Core.List.{List, [], ◌∷◌, map}
 use lib.Dec.{eqb, leb}
 use Rattle.rows.specs.Answer.{Answer, taken, refused, ◌>>=◌}

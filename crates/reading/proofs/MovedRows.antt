@@ -14,12 +14,12 @@ use Rattle.rows.specs.Kept.{KeptRow, within, stays, kept_from, kept}
 use Rattle.rows.specs.Stages.{limit, lowest, barred, step, go_on, scan, refuse_at, judged}
 use Rattle.rows.specs.ControlOut.{WellFormed}
 use Rattle.rows.specs.Passes.{Every, Passes}
-use Rattle.rows.specs.declared.Found.{Found}
-use Rattle.rows.specs.declared.Found.TheVariants.{Nowhere, At}
+use Rattle.std.specs.Prelude.{Option}
+use Rattle.std.specs.Prelude.{None, Some}
 use Rattle.rows.specs.declared.Side.{Side}
 use Rattle.rows.specs.declared.Side.TheVariants.{Outside, Inside, Spoilt}
-use Rattle.rows.specs.declared.Step.{Step}
-use Rattle.rows.specs.declared.Step.TheVariants.{On, Fault}
+use Rattle.std.specs.Prelude.{Result}
+use Rattle.std.specs.Prelude.{Ok, Err}
 use Rattle.rows.proofs.Every.{every_map, every-both}
 use Rattle.rows.proofs.Entry.{even-entry, known-entry}
 use Rattle.rows.proofs.Formed.{scan-behind}
@@ -66,18 +66,18 @@ chars-behind {a} w u =
 
 -- ---- the first three stages
 
-abbrev moved_found : ℕ → Found → Found
-moved_found d Nowhere = Nowhere
-moved_found d (At p) = At (d + p)
+abbrev moved_found : ℕ → Option ℕ → Option ℕ
+moved_found d None = None
+moved_found d (Some p) = Some (d + p)
 
 abbrev moved_side : ℕ → Side → Side
 moved_side d Outside = Outside
 moved_side d (Inside o) = Inside (d + o)
 moved_side d (Spoilt o p) = Spoilt (d + o) (d + p)
 
-abbrev moved_step : ℕ → Step → Step
-moved_step d (On m) = On (moved_side d m)
-moved_step d (Fault p) = Fault (d + p)
+abbrev moved_step : ℕ → Result Side ℕ → Result Side ℕ
+moved_step d (Ok m) = Ok (moved_side d m)
+moved_step d (Err p) = Err (d + p)
 
 -- the lowest row that a test takes, d places further on and behind rows that it misses
 module _ (f : ℕ → Bool) where
@@ -103,9 +103,9 @@ module _ (d : ℕ) where
   step-moved (Inside o) i c = either (moved_step d) (eqb c 41) refl (either (moved_step d) (eqb c 58 || eqb c 37) refl refl)
   step-moved (Spoilt o p) i c = either (moved_step d) (eqb c 41) refl refl
 
-  on-moved : (s : Step) (f g : Side → Found) → ((m : Side) → f (moved_side d m) ≡ moved_found d (g m)) → go_on (moved_step d s) f ≡ moved_found d (go_on s g)
-  on-moved (On m) f g h = h m
-  on-moved (Fault p) f g h = refl
+  on-moved : (s : Result Side ℕ) (f g : Side → Option ℕ) → ((m : Side) → f (moved_side d m) ≡ moved_found d (g m)) → go_on (moved_step d s) f ≡ moved_found d (go_on s g)
+  on-moved (Ok m) f g h = h m
+  on-moved (Err p) f g h = refl
 
   scan-moved : (m : Side) (i : ℕ) (t : List ℕ) → scan (moved_side d m) (d + i) t ≡ moved_found d (scan m i t)
   unfolding scan
@@ -115,12 +115,12 @@ module _ (d : ℕ) where
   scan-moved m i (b ∷ t) = rw (step-moved m i (character b), ← add-suc d i) (on-moved (step m i (character b)) _ _ (λ n. scan-moved n (suc i) t))
 
   -- three stages that find what they find alone, moved
-  stages-moved : (x y z : Found)
+  stages-moved : (x y z : Option ℕ)
       → refuse_at 5 (moved_found d x) >> refuse_at 6 (moved_found d y) >> refuse_at 7 (moved_found d z) ≡ moved d (λ (x : Unit {0}). x) (refuse_at 5 x >> refuse_at 6 y >> refuse_at 7 z)
-  stages-moved (At p) y z = refl
-  stages-moved Nowhere (At p) z = refl
-  stages-moved Nowhere Nowhere (At p) = refl
-  stages-moved Nowhere Nowhere Nowhere = refl
+  stages-moved (Some p) y z = refl
+  stages-moved None (Some p) z = refl
+  stages-moved None None (Some p) = refl
+  stages-moved None None None = refl
 
 -- behind a tape that passes, within the limit, u is judged as it would be alone, moved by the tape's length
 pub judged-behind : {a : List ℕ} → Passes a → (u : List ℕ) → length (a ++ u) ≤ limit → judged (a ++ u) ≡ moved (length a) (λ (x : Unit {0}). x) (judged u)

@@ -6,20 +6,20 @@ use Prim.Native.Nat.{ℕ, zero, suc, ◌+◌, ◌≤◌, ◌<◌}
 use native.Mathlib.Nat.{le_refl, le_of_suc-le-suc, not-suc-le-zero}
 use native.Mathlib.Omega.{arith}
 use lib.Dec.{ltb}
-use lib.ListN.{length, get_or, get_or-eq_default}
-use borrow.Author.Tests.{ltb-true, ltb-false}
+use lib.ListN.{length, get_or}
+use borrow.Author.Tests.{ltb-true}
 use Rattle.rows.specs.Answer.{Answer, taken, refused, value_or, ◌>>=◌}
 use Rattle.rows.specs.Kept.{KeptRow, kept_at, kept, first_of}
 use Rattle.rows.proofs.KeptRows.{next_row}
 use Rattle.shorthand.specs.declared.Format.{Format}
 use Rattle.words.specs.Figures.{Behind, taking, behind}
-use Rattle.reading.specs.Parse.{BlockRead, Entry, entry, block_at, blocks_at}
+use Rattle.reading.specs.declared.Entry.{Entry}
+use Rattle.reading.specs.Parse.{BlockRead, entry, block_at, blocks_at}
 use Rattle.parts.specs.Ends.{head_at}
-use Rattle.reading.specs.Answers.{nowhere, read, size_of}
+use Rattle.reading.specs.Answers.{nowhere, nth, read}
 use Rattle.reading.specs.declared.Part.{Part}
-use Rattle.reading.specs.Record.{empty_block}
-use Rattle.reading.specs.Front.{part_in, block_in, has_block}
-use Rattle.reading.specs.Survey.{entry_from, entry_answer}
+use Rattle.reading.specs.Front.{part_of, nth_part}
+use Rattle.reading.specs.Survey.{entry_from}
 use Rattle.reading.proofs.BlockWalk.{advances, program-blocks}
 use Rattle.reading.proofs.ReadBlocks.{Last, last, before}
 use Rattle.reading.proofs.Sound.{block-rows, head_rows}
@@ -135,25 +135,16 @@ module _ (f : Format) (t : List ℕ) where
   unfolding entry_from
   own-from e n l = let o = own-entry e n l in rw (o.reads, o.is)
 
--- ---- what is handed back of block n
+-- ---- block n from its own first row
 
-pub no_block : (n : ℕ) (a : Answer (List Entry)) (m p : ℕ) → has_block n (size_of a) ≡ refused m p → empty_block ≡ block_in n a
-no_block n (refused x y) m p e = refl
-no_block n (taken es) m p e = by (ltb n (length es)) refl e
+pub own-part : (f : Format) (t : List ℕ) (n : ℕ) (part : Part) → taken part ≡ nth_part n (read f t) → entry_from f t part.from ≡ (read f t >>= nth n)
+own-part f t n part e = by (read f t) refl e
   where
-    by : (b : Bool) → ltb n (length es) ≡ b → ◌≡◌ {A = Answer (Unit {0})} (cond b (taken tt) (refused 15 (length es))) (refused m p) → empty_block ≡ (get_or es n nowhere).block
-    by true q h = let z : ◌≡◌ {A = ℕ} 0 1 = cc in absurd (omega arith)
-    by false q h = sym (ap (λ x. x.block) (get_or-eq_default es nowhere {n = n} (ltb-false n (length es) q)))
-
-pub block-there : (f : Format) (t : List ℕ) (n : ℕ) → has_block n (size_of (read f t)) ≡ taken tt → (part : Part) → part ≡ part_in n (read f t)
-    → (entry_answer (entry_from f t part.from)).block ≡ block_in n (read f t)
-block-there f t n e part q = by (read f t) refl e q
-  where
-    by : (a : Answer (List Entry)) → read f t ≡ a → has_block n (size_of a) ≡ taken tt → part ≡ part_in n a → (entry_answer (entry_from f t part.from)).block ≡ block_in n a
-    by (refused x y) r h w = let z : ◌≡◌ {A = ℕ} 0 1 = cc in absurd (omega arith)
-    by (taken es) r h w = among (ltb n (length es)) refl h
+    by : (a : Answer (List Entry)) → read f t ≡ a → taken part ≡ nth_part n a → entry_from f t part.from ≡ (a >>= nth n)
+    by (refused x y) r w = let z : ◌≡◌ {A = ℕ} 0 1 = cc in absurd (omega arith)
+    by (taken es) r w = among (ltb n (length es)) refl w
       where
-        among : (b : Bool) → ltb n (length es) ≡ b → ◌≡◌ {A = Answer (Unit {0})} (cond b (taken tt) (refused 15 (length es))) (taken tt)
-            → (entry_answer (entry_from f t part.from)).block ≡ (get_or es n nowhere).block
-        among true l h = rw w (ap (λ a. (entry_answer a).block) (own-from f t r n (ltb-true n (length es) l)))
+        among : (b : Bool) → ltb n (length es) ≡ b → taken part ≡ (cond b (taken (get_or es n nowhere)) (refused 15 (length es)) >>= λ x. taken (part_of x))
+            → entry_from f t part.from ≡ cond b (taken (get_or es n nowhere)) (refused 15 (length es))
+        among true l h = let z : part ≡ part_of (get_or es n nowhere) = cc in rw z (own-from f t r n (ltb-true n (length es) l))
         among false l h = let z : ◌≡◌ {A = ℕ} 0 1 = cc in absurd (omega arith)

@@ -14,7 +14,7 @@ use Rattle.rows.specs.Kept.{KeptRow, within, stays, kept_from, kept_at, kept}
 use Rattle.shorthand.specs.declared.Format.{Format}
 use Rattle.reading.specs.Front.{Rising, over, rise}
 use Rattle.words.specs.Figures.{Behind}
-use Rattle.reading.specs.Parse.{Entry}
+use Rattle.reading.specs.declared.Entry.{Entry}
 use Rattle.parts.specs.Ends.{head_at}
 use Rattle.reading.specs.Answers.{program_at}
 use Rattle.reading.proofs.ReadBlocks.{Last, last, before, Entries}

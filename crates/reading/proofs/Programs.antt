@@ -13,7 +13,7 @@ use Rattle.profile.specs.Answers.{agreed}
 use Rattle.profile.proofs.Settling.{settled-exactly, settled-facts}
 use Rattle.reading.specs.declared.Block.{Block}
 use Rattle.reading.specs.Relation.{TapeOf}
-use Rattle.reading.specs.Parse.{Entry}
+use Rattle.reading.specs.declared.Entry.{Entry}
 use Rattle.reading.specs.Answers.{program_at, read, read_under}
 use Rattle.reading.proofs.Complete.{complete}
 use Rattle.reading.proofs.Sound.{sound}

@@ -1,12 +1,12 @@
 -- What the parsers of an end, a block, the head and all blocks read.
-use Prim.Native.Nat.{ℕ, zero, suc, ◌+◌, ◌^◌, ◌≤◌, ◌<◌, zero-le, suc-le-suc}
+use Prim.Native.Nat.{ℕ, zero, suc, ◌+◌, ◌≤◌, ◌<◌, zero-le, suc-le-suc}
 use mathlib.Core.Path.{◌≡◌, refl, sym, ap, ◌∙◌, subst}
 use mathlib.Core.Logic.{◌⊎◌, inl, inr}
 use mathlib.Core.Bool.{Bool, true, false, ◌&&◌, ◌||◌, cond, false≢true}
-use mathlib.Core.List.{List, [], ◌∷◌, ◌++◌, append-nil, append_assoc}
+use mathlib.Core.List.{List, [], ◌∷◌, ◌++◌, append-nil}
 use native.Mathlib.Nat.{le_refl}
 use native.Mathlib.Omega.{arith}
-use lib.ListN.{length, length-append, length-map}
+use lib.ListN.{length, length-append}
 use lib.Dec.{eqb, lit≤}
 use borrow.Author.Tests.{eqb-true}
 use Rattle.rows.specs.Answer.{taken, refused}
@@ -23,7 +23,8 @@ use Rattle.words.specs.declared.Wanted.{Wanted}
 use Rattle.words.specs.Figures.{Behind, wrong_by, fronts, behind}
 use Rattle.parts.specs.Ends.{after_cr, ended, close_at}
 use Rattle.parts.specs.Items.{bare_in}
-use Rattle.reading.specs.Parse.{BlockRead, block_at, Entry, blocks_at}
+use Rattle.reading.specs.declared.Entry.{Entry}
+use Rattle.reading.specs.Parse.{BlockRead, block_at, blocks_at}
 use Rattle.parts.specs.Ends.{head_at}
 use Rattle.reading.specs.Answers.{program_at}
 use Rattle.parts.specs.Starts.{number_at, start_at}

@@ -1,7 +1,7 @@
 -- What is left of an accepted tape: the blocks from a row on, whatever bound they are counted by.
-use mathlib.Core.Path.{◌≡◌, refl, sym, ap, ◌∙◌}
+use mathlib.Core.Path.{◌≡◌, refl, ap, ◌∙◌}
 use mathlib.Core.List.{List, [], ◌∷◌}
-use Prim.Native.Nat.{ℕ, zero, suc, ◌+◌, ◌≤◌, ◌<◌}
+use Prim.Native.Nat.{ℕ, zero, suc, ◌+◌, ◌≤◌}
 use native.Mathlib.Nat.{le_refl}
 use native.Mathlib.Omega.{arith}
 use lib.ListN.{length, length-append}
@@ -9,7 +9,8 @@ use Rattle.rows.specs.Answer.{Answer, taken, refused, ◌>>=◌}
 use Rattle.rows.specs.Kept.{KeptRow, kept_at}
 use Rattle.shorthand.specs.declared.Format.{Format}
 use Rattle.words.specs.Figures.{Behind}
-use Rattle.reading.specs.Parse.{BlockRead, Entry, entry, block_at, blocks_at}
+use Rattle.reading.specs.declared.Entry.{Entry}
+use Rattle.reading.specs.Parse.{BlockRead, entry, block_at, blocks_at}
 use Rattle.reading.specs.Remains.{Remains, all, later}
 use Rattle.reading.proofs.BlockWalk.{entered-head}
 use Rattle.reading.proofs.OwnRows.{Left, First, nothing, block, first, behind-head}

@@ -1,6 +1,5 @@
 -- Soundness: the program that the fourth stage answers stands as the kept rows.
-use Prim.Native.Nat.{ℕ, ◌<◌}
-use lib.ListN.{length}
+use Prim.Native.Nat.{ℕ}
 use mathlib.Core.Path.{◌≡◌}
 use mathlib.Core.Bool.{Bool, true, false}
 use mathlib.Core.List.{List, [], ◌∷◌, ◌++◌, map}
@@ -14,19 +13,19 @@ use Rattle.shorthand.specs.declared.Item.{Item}
 use Rattle.shorthand.specs.declared.Format.{Format}
 use Rattle.shorthand.specs.Layout.{items_of, Way}
 use Rattle.reading.specs.Relation.{address, Worded, End, Blocks, none, more, Program, program, chars}
-use Rattle.words.specs.declared.Wanted.{Wanted}
 use Rattle.words.specs.Figures.{Behind}
 use Rattle.parts.specs.Ends.{close_at}
 use Rattle.words.specs.Data.{word_at}
 use Rattle.parts.specs.Items.{steps, begins, bare_in}
-use Rattle.reading.specs.Parse.{BlockRead, block_at, Entry}
+use Rattle.reading.specs.declared.Entry.{Entry}
+use Rattle.reading.specs.Parse.{BlockRead, block_at}
 use Rattle.parts.specs.Ends.{head_at}
 use Rattle.reading.specs.Answers.{program_at}
 use Rattle.parts.specs.declared.Begun.{Begun}
 use Rattle.words.specs.declared.Word.{Word}
 use Rattle.parts.specs.Starts.{start_at}
 use Rattle.rows.proofs.Outcomes.{Holds, refusal, value, of-taken}
-use Rattle.reading.proofs.Outcomes.{Reads, Table, Placed, no_row, next_row, chars-append, reads-map}
+use Rattle.reading.proofs.Outcomes.{Reads, Table, Placed, no_row, next_row, chars-append}
 use Rattle.reading.proofs.ReadData.{Sayable}
 use Rattle.reading.proofs.ReadWords.{Stepped, steps-over, Addressed, address-over, word_read}
 use Rattle.reading.proofs.ReadBlocks.{Last, StartRows, start-read, close-read, BlockRows, block_read, HeadRows, head_read, Entries, ProgramRows, program-read}

@@ -8,7 +8,7 @@ use native.Mathlib.Omega.{arith}
 use lib.Dec.{ltb}
 use lib.ListN.{length, drop, length-append, length-map}
 use borrow.Author.Tests.{ltb-true, ltb-false}
-use Rattle.rows.specs.Answer.{Answer, taken, refused, refusal, ◌>>=◌}
+use Rattle.rows.specs.Answer.{Answer, taken, refused, ◌>>=◌}
 use Rattle.rows.specs.Kept.{KeptRow}
 use Rattle.shorthand.specs.declared.Item.{Item}
 use Rattle.shorthand.specs.declared.Format.{Format}
@@ -35,7 +35,8 @@ use Rattle.parts.proofs.Leading.{due-on}
 use Rattle.parts.proofs.BareFronts.{bare-same}
 use Rattle.reading.specs.Record.{block_of, is_empty}
 use Rattle.reading.specs.Relation.{End, chars}
-use Rattle.reading.specs.Parse.{cons_word, resumed, words_at, block_at, Entry, entry, blocks_at}
+use Rattle.reading.specs.declared.Entry.{Entry}
+use Rattle.reading.specs.Parse.{cons_word, resumed, words_at, block_at, entry, blocks_at}
 use Rattle.reading.specs.Front.{Rising}
 use Rattle.reading.proofs.BlockWalk.{before, before_none, before_more}
 use Rattle.reading.proofs.DueItems.{from-due}
@@ -215,16 +216,9 @@ module _ (n : ℕ) (f : Format) (most first : ℕ) (start : List KeptRow) where
       by Before o h = omega (arith, h)
       by Ending o h = h
 
-  -- the item before which a walk stands has digits that a number holds, and the rest that a step asks for holds too
-  pub ready : {u : Rules} {leads : List ℕ} → Under f u leads → {done : List Entry} {b : Begun} {ws : List Word} {fuel from : ℕ} (t : List ℕ) (c : Cursor)
-      → Walk done b ws fuel from (spot_told t c) → Ready u leads (item_at f c.item) c
-  ready h t c g =
-      record {
-        digits = rw h.ruled (omega (arith, h.facts.sequence.1));
-        table = h.led.all;
-        within = g.within;
-        widths = λ e. widths-at f h.facts c.item (item-due g e);
-      }
+  -- what a step asks for holds of the item before which a walk stands
+  pub ready : Facts f → {done : List Entry} {b : Begun} {ws : List Word} {fuel from : ℕ} (t : List ℕ) (c : Cursor) → Walk done b ws fuel from (spot_told t c) → Ready (item_at f c.item) c
+  ready h t c g = record { within = g.within; widths = λ e. widths-at f h c.item (item-due g e) }
 
   -- the walk goes on at v, nearer to the end than at s
   pub record Further (done : List Entry) (b : Begun) (ws : List Word) (fuel from was : ℕ) (s v : Spot) : Type 0 where
@@ -238,7 +232,6 @@ module _ (n : ℕ) (f : Format) (most first : ℕ) (start : List KeptRow) where
   Goes done b ws fuel from s v Out = Further done b ws fuel from from s v
   Goes done b ws fuel from s v (Read w) = Further done b (ws ++ (w ∷ [])) fuel from from s v × (length ws < f.count) × (open_in s.stage ≡ 1)
   Goes done b ws fuel from s v (Closed lf) = Further (done ++ (entry_of from b ws lf ∷ [])) b ws fuel (lf + 1) from s v × (from ≤ lf) × (lf < n)
-  Goes done b ws fuel from s v (Event.Refused r) = blocks_at most n f first start ≡ refusal r
 
   -- before item k of an open block, the walk goes on where the next word may stand
   module _ (h : Facts f) (leads : List ℕ) (ld : Leads f leads) where
@@ -295,8 +288,9 @@ module _ (n : ℕ) (f : Format) (most first : ℕ) (start : List KeptRow) where
       abbrev From : Stage → Type 0
       From g = Walk done b ws fuel from (record { stage = g; item = k; empty = empty; rows = rs })
 
-      abbrev To : Stage → Moved → Type 0
-      To g m = Goes done b ws fuel from (record { stage = g; item = k; empty = empty; rows = rs }) m.spot m.event
+      abbrev To : Stage → Answer Moved → Type 0
+      To g (taken m) = Goes done b ws fuel from (record { stage = g; item = k; empty = empty; rows = rs }) m.spot m.event
+      To g (refused m p) = all ≡ refused m p
 
       abbrev onward : Bool → ℕ → List KeptRow → Spot
       onward x j u = going (rules_of f) leads x j u
@@ -308,7 +302,7 @@ module _ (n : ℕ) (f : Format) (most first : ℕ) (start : List KeptRow) where
           here : Spot
           here = record { stage = Between; item = k; empty = empty; rows = rs }
 
-          opened : (r : KeptRow) (u : List KeptRow) → rs ≡ r ∷ u → (φ : ℕ) → fuel ≡ suc φ → (a : Answer (Behind Begun)) → start_at n f.sequence (bare_in f) rs ≡ a → To Between (opens onward here a)
+          opened : (r : KeptRow) (u : List KeptRow) → rs ≡ r ∷ u → (φ : ℕ) → fuel ≡ suc φ → (a : Answer (Behind Begun)) → start_at n f.sequence (bare_in f) rs ≡ a → To Between (opens onward a)
           opened r u e φ o (taken x) q =
               let t = start-rows n rs f x q in
               let size : length rs ≡ length t.took + length x.rest = ap length t.split ∙ length-append t.took x.rest in
@@ -393,13 +387,13 @@ module _ (n : ℕ) (f : Format) (most first : ℕ) (start : List KeptRow) where
               word (front_place after) (past_address (way_of f) after) (t.took ++ b.took) split (rw (p, q)) (word_at n it (front_place after) (past_address (way_of f) after)) refl
 
       -- behind the items
-      step-close : From Ending → To Ending (closes_by (record { stage = Ending; item = k; empty = empty; rows = rs }) (close_at n empty rs))
+      step-close : From Ending → To Ending (closes_by (close_at n empty rs))
       step-close g = by (close_at n empty rs) refl
         where
           same : close_at n empty rs ≡ close_at n (is_empty b ws) rs
           same = ap (λ x. close_at n x rs) (g.emptied refl)
 
-          by : (a : Answer (Behind ℕ)) → close_at n empty rs ≡ a → To Ending (closes_by (record { stage = Ending; item = k; empty = empty; rows = rs }) a)
+          by : (a : Answer (Behind ℕ)) → close_at n empty rs ≡ a → To Ending (closes_by a)
           by (taken x) q =
               let t = end-rows n rs empty x q in
               let l = last-rising x.rest t.stands.1 (rw t.split at g.rising) in
@@ -429,9 +423,15 @@ module _ (n : ℕ) (f : Format) (most first : ℕ) (start : List KeptRow) where
       step-goes Ending g spare = step-close g
 
   -- the law of a step; between blocks another is opened only where one more may come
-  pub goes : {u : Rules} {leads : List ℕ} → Under f u leads → {done : List Entry} {b : Begun} {ws : List Word} {fuel from : ℕ} {s : Spot} → Walk done b ws fuel from s
-      → (s.stage ≡ Between → 0 < length s.rows → 0 < fuel) → (m : Moved) → m ≡ step_at n u leads (item_at f s.item) s → (e : Event) → m.event ≡ e
-      → Goes done b ws fuel from s m.spot e
-  unfolding step_at
-  goes h {done} {b} {ws} {fuel} {from} {s} g spare m e v q =
-      subst (λ x. Goes done b ws fuel from s m.spot x) q (rw (e, h.ruled) (step-goes h.facts _ h.led done b ws fuel from s.item s.empty s.rows s.stage g spare))
+  module _ {u : Rules} {leads : List ℕ} (h : Under f u leads) {done : List Entry} {b : Begun} {ws : List Word} {fuel from : ℕ} {s : Spot} (g : Walk done b ws fuel from s)
+      (spare : s.stage ≡ Between → 0 < length s.rows → 0 < fuel) where
+    law : To h.facts leads h.led done b ws fuel from s.item s.empty s.rows s.stage (step_at n u leads (item_at f s.item) s)
+    unfolding step_at
+    law = rw h.ruled (step-goes h.facts leads h.led done b ws fuel from s.item s.empty s.rows s.stage g spare)
+
+    pub goes : (m : Moved) → taken m ≡ step_at n u leads (item_at f s.item) s → (e : Event) → m.event ≡ e → Goes done b ws fuel from s m.spot e
+    goes m e v q = subst (λ x. Goes done b ws fuel from s m.spot x) q (rw (sym e) at law)
+
+    -- a step's refusal is that of all blocks
+    pub halts : (m p : ℕ) → refused m p ≡ step_at n u leads (item_at f s.item) s → all ≡ refused m p
+    halts m p e = rw (sym e) at law

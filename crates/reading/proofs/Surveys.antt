@@ -12,7 +12,7 @@ use Rattle.shorthand.specs.declared.Format.{Format}
 use Rattle.words.specs.Figures.{Behind, taking}
 use Rattle.parts.specs.Ends.{entered}
 use Rattle.reading.specs.declared.Part.{Part}
-use Rattle.reading.specs.Parse.{Entry}
+use Rattle.reading.specs.declared.Entry.{Entry}
 use Rattle.reading.specs.Answers.{nowhere, read}
 use Rattle.reading.specs.Front.{part_of}
 use Rattle.reading.specs.Survey.{Surveyed, no_rows, last_part, surveyed_from, surveyed}

@@ -1,14 +1,14 @@
 -- What each entry point answers: 1 to 15 in document 01's order, with 22 and 23 of the profile behind 3 (document 02, 2/12).
 use Rattle.std.specs.Prelude.{ℕ, ◌+◌, ◌-◌, cond, List, length, get_or, take, drop, ltb}
-use Rattle.rows.specs.Answer.{Answer, taken, refused, refusal, ◌>>=◌, ◌>>◌}
+use Rattle.rows.specs.Answer.{Answer, taken, refused, ◌>>=◌, ◌>>◌}
 use Rattle.rows.specs.Stages.{judged}
 use Rattle.rows.specs.Kept.{KeptRow, kept}
 use Rattle.shorthand.specs.declared.Format.{Format}
 use Rattle.profile.specs.Answers.{agreed}
 use Rattle.reading.specs.declared.Block.{Block}
-use Rattle.reading.specs.declared.Counted.{Counted}
 use Rattle.reading.specs.Record.{empty_block}
-use Rattle.reading.specs.Parse.{Entry, blocks_at}
+use Rattle.reading.specs.declared.Entry.{Entry}
+use Rattle.reading.specs.Parse.{blocks_at}
 use Rattle.parts.specs.Ends.{head_at}
 
 -- the fourth stage: the head, and then blocks to the end of the tape
@@ -41,11 +41,6 @@ size_of a = a >>= λ es. taken (length es)
 -- the number of blocks
 abbrev pub counted : ℕ → List ℕ → List ℕ → List ℕ → Answer ℕ
 counted e s p t = size_of (read_under e s p t)
-
--- what each case of `Counted` says
-abbrev pub count_told : Counted → Answer ℕ
-count_told (Counted.Blocks n) = taken n
-count_told (Counted.Refused r) = refusal r
 
 -- block n
 abbrev pub block_numbered : ℕ → List ℕ → List ℕ → List ℕ → ℕ → Answer Block

@@ -13,6 +13,7 @@ use Rattle.parts.specs.Ends.{close_at}
 use Rattle.parts.specs.Starts.{start_at}
 use Rattle.parts.specs.Items.{Standing, stops, out, at, standing, bare_in}
 use Rattle.reading.specs.declared.Block.{Block}
+use Rattle.reading.specs.declared.Entry.{Entry}
 use Rattle.reading.specs.Record.{block_of, is_empty}
 
 -- ---- the words of a block
@@ -47,12 +48,6 @@ unfoldable pub block_at : ℕ → Format → List KeptRow → Answer (Behind Blo
 block_at len f rs = start_at len f.sequence (bare_in f) rs >>= words_and_end len f
 
 -- ---- all blocks
-
--- a block of a tape, and its rows: from just after the end before it to its own LF, included
-pub record Entry : Type 0 where
-  pub block : Block
-  pub from : ℕ
-  pub to : ℕ
 
 abbrev pub entry : ℕ → BlockRead → Entry
 entry from b = record { block = b.block; from = from; to = b.lf + 1 }

@@ -1,6 +1,5 @@
 -- A block by its parts (documents 01, "The record", and 02, 5/12).
-use Rattle.std.specs.Prelude.{ℕ, ◌-◌, Bool, false, not, List, [], ◌∷◌, ◌++◌, length, take, replicate}
-use Rattle.words.specs.declared.Value.{Value}
+use Rattle.std.specs.Prelude.{◌-◌, Bool, false, not, List, [], ◌∷◌, ◌++◌, length, take, replicate}
 use Rattle.words.specs.declared.Value.TheVariants.{Number}
 use Rattle.words.specs.declared.Word.{Word}
 use Rattle.parts.specs.declared.Begun.{Begun}

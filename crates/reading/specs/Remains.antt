@@ -5,7 +5,7 @@ use Rattle.rows.specs.Kept.{KeptRow}
 use Rattle.shorthand.specs.declared.Format.{Format}
 use Rattle.words.specs.Figures.{taking}
 use Rattle.parts.specs.Ends.{entered}
-use Rattle.reading.specs.Parse.{Entry}
+use Rattle.reading.specs.declared.Entry.{Entry}
 use Rattle.reading.specs.Answers.{read}
 
 -- from a row on these blocks of an accepted tape stand: all of them behind its head, or those behind a block that was the first of them

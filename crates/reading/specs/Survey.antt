@@ -1,15 +1,14 @@
 -- What a survey of a tape holds, an entry read from its own first row, and rows that are read with no head.
 use Rattle.std.specs.Prelude.{ℕ, ◌+◌, List, [], ◌∷◌, length}
-use Rattle.rows.specs.declared.Checked.TheVariants.{Clean, Refused}
-use Rattle.rows.specs.Answer.{Answer, taken, refused, value_or, ◌>>=◌, ◌>>◌}
+use Rattle.rows.specs.Answer.{Answer, taken, ◌>>=◌, ◌>>◌}
 use Rattle.rows.specs.Kept.{kept_at, kept}
 use Rattle.rows.specs.Stages.{judged}
 use Rattle.shorthand.specs.declared.Format.{Format}
 use Rattle.parts.specs.Ends.{entered}
 use Rattle.reading.specs.declared.Part.{Part}
-use Rattle.reading.specs.declared.EntryAnswer.{EntryAnswer}
-use Rattle.reading.specs.Parse.{Entry, entry, block_at, blocks_at}
-use Rattle.reading.specs.Answers.{nowhere, read}
+use Rattle.reading.specs.declared.Entry.{Entry}
+use Rattle.reading.specs.Parse.{entry, block_at, blocks_at}
+use Rattle.reading.specs.Answers.{read}
 use Rattle.reading.specs.Front.{part_of}
 
 -- no rows, before row i
@@ -34,8 +33,8 @@ surveyed_from i a = a >>= λ es. taken (record { entries = es; last = last_part 
 unfoldable pub surveyed : Format → List ℕ → Answer Surveyed
 surveyed f t = entered t >>= λ h. surveyed_from (h.value + 1) (read f t)
 
-abbrev pub last_in : Answer Surveyed → Part
-last_in a = value_or (no_rows 0) (a >>= λ x. taken x.last)
+abbrev pub last_in : Answer Surveyed → Answer Part
+last_in a = a >>= λ x. taken x.last
 
 -- the block that begins at row i, whatever stands before it, and its rows; 14 where nothing is left
 unfoldable pub entry_from : Format → List ℕ → ℕ → Answer Entry
@@ -44,8 +43,3 @@ entry_from f t i = block_at (length t) f (kept_at t i) >>= λ b. taken (entry i 
 -- rows with no head, from place 0 on: the first three stages, and then blocks to their end
 unfoldable pub alone : Format → List ℕ → Answer (List Entry)
 alone f t = judged t >> blocks_at (length (kept t)) (length t) f 0 (kept t)
-
--- what is handed back of an entry, or of a refusal
-abbrev pub entry_answer : Answer Entry → EntryAnswer
-entry_answer (taken x) = record { outcome = Clean; block = x.block; part = part_of x }
-entry_answer (refused n p) = record { outcome = Refused (record { number = n; place = p }); block = nowhere.block; part = part_of nowhere }

@@ -1,15 +1,14 @@
 // A block gathered into its record.
-ghost use Rattle.std.specs.Prelude.{◌≡◌, [], ◌+◌, ◌<◌, length, set};
-ghost use Rattle.rows.specs.Answer.{refused};
-ghost use Rattle.shorthand.specs.Facts.{Facts};
+ghost use Rattle.std.specs.Prelude.{◌≡◌, [], ◌+◌, ◌<◌, set};
+ghost use Rattle.rows.specs.Answer.{told};
 ghost use Rattle.reading.specs.Record.{block_of, empty_block};
-ghost use Rattle.reading.specs.Survey.{entry_from, entry_answer};
+ghost use Rattle.reading.specs.Survey.{entry_from};
 
-use crate::{Block, EntryAnswer, Part};
+use crate::{Block, Entry};
 use parts::Begun;
-use parts::items::{lead_letters, rules_of};
-use rows::{Checked, Refusal};
-use shorthand::Format;
+use parts::items::guide_of;
+use rows::{Cause, Refusal};
+use shorthand::Usable;
 use steps::walking::take_step;
 use steps::{Cursor, Event, Stage};
 use words::{Value, Word};
@@ -35,7 +34,7 @@ fn new_block(begun: Begun) -> Block
 // A block with one more word.
 fn with_word(block: Block, word: Word) -> Block
     requires { block.count < 22 }
-    ensures { result ≡ record { skip = block.skip; alignment = block.alignment; numbered = block.numbered; sequence = block.sequence; count = block.count + 1; words = set block.words block.count word } }
+    ensures { result ≡ record block { count = block.count + 1; words = set block.words block.count word } }
 {
     let mut next = block;
     let at = block.count;
@@ -44,7 +43,7 @@ fn with_word(block: Block, word: Word) -> Block
     next
 }
 
-// What a refusal hands back.
+// A block with neither number nor word.
 pub fn empty_block() -> Block
     ensures { result ≡ empty_block }
 {
@@ -56,24 +55,11 @@ pub fn empty_block() -> Block
     })
 }
 
-// Where no block begins.
-pub fn no_entry(number: u32, place: usize) -> EntryAnswer
-    ensures { result ≡ entry_answer (refused number place) }
-{
-    EntryAnswer {
-        outcome: Checked::Refused(Refusal { number, place }),
-        block: empty_block(),
-        part: Part { from: 0, to: 0 },
-    }
-}
-
 // The block that begins at a row, whatever stands before it, and where its rows stand.
-pub fn block_from(tape: &[u8], format: Format, from: usize) -> EntryAnswer
-    requires { Facts format }
-    ensures { result ≡ entry_answer (entry_from format tape.now from) }
+pub fn block_from(tape: &[u8], usable: Usable, from: usize) -> Result<Entry, Refusal>
+    ensures { told result ≡ entry_from usable.format tape.now from }
 {
-    let rules = rules_of(format);
-    let leads = lead_letters(format);
+    let guide = guide_of(usable);
     let mut cursor = Cursor {
         stage: Stage::Between,
         item: 0,
@@ -82,32 +68,20 @@ pub fn block_from(tape: &[u8], format: Format, from: usize) -> EntryAnswer
     };
     let mut block = empty_block();
     loop {
-        let k = cursor.item;
-        let item = format.items[k];
-        let step = take_step(tape, rules, &leads[..], item, cursor);
-        let event = step.event;
-        let next = step.cursor;
-        cursor = next;
-        match event {
-            Event::Opened(begun) => {
-                block = new_block(begun);
-            }
-            Event::Read(word) => {
-                block = with_word(block, word);
-            }
+        let item = usable.format.items[cursor.item];
+        let step = take_step(tape, &guide, item, cursor)?;
+        cursor = step.cursor;
+        match step.event {
+            Event::Opened(begun) => block = new_block(begun),
+            Event::Read(word) => block = with_word(block, word),
             Event::Closed(lf) => {
-                return EntryAnswer {
-                    outcome: Checked::Clean,
+                return Ok(Entry {
                     block,
-                    part: Part { from, to: lf + 1 },
-                };
+                    from,
+                    to: lf + 1,
+                });
             }
-            Event::Finished => {
-                return no_entry(14, tape.len());
-            }
-            Event::Refused(r) => {
-                return no_entry(r.number, r.place);
-            }
+            Event::Finished => return Err(Cause::CutShort.at(tape.len())),
             Event::Out => {}
         }
     }

@@ -12,36 +12,36 @@ use borrow.Author.Tests.{eqb-true}
 use Rattle.rows.specs.Row.{character}
 use Rattle.rows.specs.Stages.{go_on, scan}
 use Rattle.rows.specs.Faults.{opens, closes, spoils, Open, Fault, stray, unclosed as never-closed, inside, behind_row, behind_remark, Lowest}
-use Rattle.rows.specs.declared.Found.TheVariants.{At}
+use Rattle.std.specs.Prelude.{Some}
 use Rattle.rows.specs.declared.Side.TheVariants.{Outside, Inside, Spoilt}
-use Rattle.rows.specs.declared.Step.TheVariants.{On, Fault as Faulty}
+use Rattle.std.specs.Prelude.{Ok, Err as Faulty}
 use Rattle.rows.proofs.Every.{every_append, every_front, every_back}
 use Rattle.rows.proofs.LowestRows.{Finds, nothing, lowest_one, finds-further}
 use Rattle.rows.proofs.FirstRows.{Missed, Splits, nowhere, first, splits, missed-none, one-first, first-least}
 
 -- a control-out that is not closed is at fault at its own row, whatever stands in it
-spoilt-open : (r : List ℕ) (o p i : ℕ) → Open r → scan (Spoilt o p) i r ≡ At o
+spoilt-open : (r : List ℕ) (o p i : ℕ) → Open r → scan (Spoilt o p) i r ≡ Some o
 unfolding scan
 spoilt-open [] o p i h = refl
 spoilt-open (b ∷ r) o p i h = rw h.0 (spoilt-open r o p (suc i) h.1)
 
-inside-open : (r : List ℕ) (o i : ℕ) → Open r → scan (Inside o) i r ≡ At o
+inside-open : (r : List ℕ) (o i : ℕ) → Open r → scan (Inside o) i r ≡ Some o
 unfolding scan
 inside-open [] o i h = refl
 inside-open (b ∷ r) o i h = rw h.0 (by (spoils b) (inside-open r o (suc i) h.1))
   where
-    by : (x : Bool) → scan (Inside o) (suc i) r ≡ At o → go_on (cond x (On (Spoilt o i)) (On (Inside o))) (λ n. scan n (suc i) r) ≡ At o
+    by : (x : Bool) → scan (Inside o) (suc i) r ≡ Some o → go_on (cond x (Ok (Spoilt o i)) (Ok (Inside o))) (λ n. scan n (suc i) r) ≡ Some o
     by true e = spoilt-open r o i (suc i) h.1
     by false e = e
 
 -- one that is spoilt and closed is at fault where it was spoilt
-spoilt-closed : (s : List ℕ) (c : ℕ) (u : List ℕ) (o p i : ℕ) → Open s → closes c ≡ true → scan (Spoilt o p) i (s ++ (c ∷ u)) ≡ At p
+spoilt-closed : (s : List ℕ) (c : ℕ) (u : List ℕ) (o p i : ℕ) → Open s → closes c ≡ true → scan (Spoilt o p) i (s ++ (c ∷ u)) ≡ Some p
 unfolding scan
 spoilt-closed [] c u o p i h e = rw e
 spoilt-closed (b ∷ s) c u o p i h e = rw h.0 (spoilt-closed s c u o p (suc i) h.1 e)
 
 inside-spoilt : (a : List ℕ) (b : ℕ) (s : List ℕ) (c : ℕ) (u : List ℕ) (o i : ℕ) → Open (a ++ (b ∷ s)) → Missed spoils a → spoils b ≡ true → closes c ≡ true
-    → scan (Inside o) i ((a ++ (b ∷ s)) ++ (c ∷ u)) ≡ At (i + length a)
+    → scan (Inside o) i ((a ++ (b ∷ s)) ++ (c ∷ u)) ≡ Some (i + length a)
 unfolding scan
 inside-spoilt [] b s c u o i h m q e = rw (h.0, q, add-zero) (spoilt-closed s c u o i (suc i) h.1 e)
 inside-spoilt (x ∷ a) b s c u o i h m q e = rw (h.0, m.0, add-suc, ← suc-add) (inside-spoilt a b s c u o (suc i) h.1 m.1 q e)
@@ -126,12 +126,12 @@ no_rows _ _ e (inside x y s d v k m q n f) = let z : ◌≡◌ {A = ℕ} 0 1 = c
 no_rows _ _ e (behind_row k f) = let z : ◌≡◌ {A = ℕ} 0 1 = cc in omega arith
 no_rows _ _ e (behind_remark x d k m n f) = let z : ◌≡◌ {A = ℕ} 0 1 = cc in omega arith
 
-lowest-first : {P : ℕ → Type 0} → P 0 → (i : ℕ) → Finds P i (At i)
-lowest-first {P} h i = let found : Finds P i (At (i + 0)) = lowest_one 0 (record { is = h; least = λ q k. zero-le }) in rw add-zero at found
+lowest-first : {P : ℕ → Type 0} → P 0 → (i : ℕ) → Finds P i (Some i)
+lowest-first {P} h i = let found : Finds P i (Some (i + 0)) = lowest_one 0 (record { is = h; least = λ q k. zero-le }) in rw add-zero at found
 
 -- a row outside
 from-outside : (b : ℕ) (t : List ℕ) (i : ℕ) (x : Bool) → opens b ≡ false → closes b ≡ x → Finds (Fault t) (suc i) (scan Outside (suc i) t)
-    → Finds (Fault (b ∷ t)) i (go_on (cond x (Faulty i) (On Outside)) (λ n. scan n (suc i) t))
+    → Finds (Fault (b ∷ t)) i (go_on (cond x (Faulty i) (Ok Outside)) (λ n. scan n (suc i) t))
 from-outside b t i true plain k s = lowest-first (stray k) i
 from-outside b t i false plain k s =
     finds-further {P = Fault t} {Q = Fault (b ∷ t)} i 1 (λ q f. let next : 1 + q ≡ suc q = omega arith in rw next (behind_row plain f))
@@ -152,7 +152,7 @@ from-opened o _ i op (first r c u m e) rest = by r refl (splits spoils r)
         (finds-further {P = Fault u} {Q = Fault (o ∷ (r ++ (c ∷ u)))} i (length r + 2) (past-clean o r c u op m e) (behind-clean o r c u op m e clean) (rest u shorter (i + (length r + 2))))
     by _ q (first a b s n k) =
         let at : i + suc (length a) ≡ suc i + length a = omega arith in
-        let found : Finds (Fault (o ∷ (r ++ (c ∷ u)))) i (At (i + suc (length a))) = lowest_one (suc (length a)) (lowest-inside o r c u op m e a b s (sym q) n k) in
+        let found : Finds (Fault (o ∷ (r ++ (c ∷ u)))) i (Some (i + suc (length a))) = lowest_one (suc (length a)) (lowest-inside o r c u op m e a b s (sym q) n k) in
         let scanned = inside-spoilt a b s c u i (suc i) (rw (sym q) at m) n k e in
         rw (rw q at scanned) (rw at at found)
 
@@ -161,7 +161,7 @@ unfolding scan
 from-rows [] i rest = nothing (λ p f. no_rows [] p refl f)
 from-rows (b ∷ t) i rest = by (opens b) refl
   where
-    by : (x : Bool) → opens b ≡ x → Finds (Fault (b ∷ t)) i (go_on (cond x (On (Inside i)) (cond (closes b) (Faulty i) (On Outside))) (λ m. scan m (suc i) t))
+    by : (x : Bool) → opens b ≡ x → Finds (Fault (b ∷ t)) i (go_on (cond x (Ok (Inside i)) (cond (closes b) (Faulty i) (Ok Outside))) (λ m. scan m (suc i) t))
     by true q = from-opened b t i q (splits closes t) (λ u k j. rest u (omega (arith, k)) j)
     by false q = from-outside b t i (closes b) q refl (rest t (omega arith) (suc i))
 

@@ -1,22 +1,21 @@
 -- Laws of the kept rows: the next of them and what is behind it, and which characters they can be.
-use mathlib.Core.Path.{◌≡◌, refl, sym, ap, ◌∙◌, subst}
+use mathlib.Core.Path.{◌≡◌, refl, sym, ap, ◌∙◌}
 use mathlib.Core.Logic.{◌⊎◌, inl, inr, ⊎_elim}
 use mathlib.Core.Bool.{Bool, true, false, not, ◌||◌, cond}
 use mathlib.Core.List.{List, [], ◌∷◌, ◌++◌, map}
-use Prim.Native.Nat.{ℕ, zero, suc, ◌+◌, ◌-◌, ◌≤◌, ◌<◌, zero-le, suc-le-suc}
+use Prim.Native.Nat.{ℕ, zero, suc, ◌+◌, ◌≤◌, ◌<◌, zero-le, suc-le-suc}
 use native.Mathlib.Nat.{add-zero, add-suc, suc-add}
-use native.Mathlib.Numerals.{add-one}
 use native.Mathlib.Omega.{arith}
-use lib.Dec.{T, eqb}
+use lib.Dec.{eqb}
 use lib.ListN.{length, get_or, drop, length-drop}
 use lib.Seq.{drop-drop, get_or-drop}
 use borrow.Author.Tests.{not-true}
-use Rattle.rows.specs.Row.{character, characters, among}
+use Rattle.rows.specs.Row.{character, among}
 use Rattle.rows.specs.ControlOut.{Remark, empty, more, WellFormed, end, row, remark}
 use Rattle.rows.specs.Kept.{KeptRow, within, stays, kept_from, kept_at, kept, first_of}
 use Rattle.rows.specs.Passes.{Every, Passes}
-use Rattle.rows.specs.declared.Next.{Next}
-use Rattle.rows.specs.declared.Next.TheVariants.{Row, End}
+use Rattle.std.specs.Prelude.{Option, Some, None}
+use Rattle.rows.specs.declared.Kept.{Kept}
 use Rattle.rows.proofs.Formed.{not-among}
 
 -- the row after a kept one stands outside
@@ -53,29 +52,30 @@ pub record Stands (t : List ℕ) (at c r n : ℕ) : Type 0 where
   pub within : n ≤ length t
   pub character : c ≡ character (get_or t r 0)
 
-end_none : (l : List KeptRow) → first_of l ≡ End → l ≡ []
+end_none : (l : List KeptRow) → first_of l ≡ None → l ≡ []
 end_none [] e = refl
 end_none (r ∷ l) e = let z : ◌≡◌ {A = ℕ} 0 1 = cc in absurd (omega arith)
 
 module _ (t : List ℕ) (at : ℕ) where
-  pub next-end : first_of (kept_at t at) ≡ End → kept_at t at ≡ []
+  pub next-end : first_of (kept_at t at) ≡ None → kept_at t at ≡ []
   next-end e = end_none (kept_at t at) e
 
   -- the next kept row, and the kept rows behind it
-  pub next_row : (c r n : ℕ) → first_of (kept_at t at) ≡ Row c r n → Stands t at c r n
+  pub next_row : (c r n : ℕ) → first_of (kept_at t at) ≡ Some (record { character = c; place = r; after = n }) → Stands t at c r n
   next_row c r n e = ⊎_elim none some (first-kept (drop at t) false at)
     where
       none : kept_at t at ≡ [] → Stands t at c r n
-      none q = let h : End ≡ Row c r n = sym (ap first_of q) ∙ e in let z : ◌≡◌ {A = ℕ} 0 1 = cc in absurd (omega arith)
+      none q = let h : ◌≡◌ {A = Option Kept} None (Some (record { character = c; place = r; after = n })) = sym (ap first_of q) ∙ e in let z : ◌≡◌ {A = ℕ} 0 1 = cc in absurd (omega arith)
 
       some : (k : ℕ) × Begins false at (drop at t) k → Stands t at c r n
       some s =
           let k = s.0 in
           let b : k < length (drop at t) = s.1.0 in
-          let h : Row (character (get_or (drop at t) k 0)) (at + k) (at + k + 1) ≡ Row c r n = sym (ap first_of s.1.1) ∙ e in
-          let er : at + k ≡ r = cc in
-          let ec : character (get_or (drop at t) k 0) ≡ c = cc in
-          let en : at + k + 1 ≡ n = cc in
+          let h : ◌≡◌ {A = Option Kept} (Some (record { character = character (get_or (drop at t) k 0); place = at + k; after = at + k + 1 })) (Some (record { character = c; place = r; after = n })) = sym (ap first_of s.1.1) ∙ e in
+          let same : ◌≡◌ {A = Kept} (record { character = character (get_or (drop at t) k 0); place = at + k; after = at + k + 1 }) (record { character = c; place = r; after = n }) = cc in
+          let er : at + k ≡ r = ap (λ (x : Kept). x.place) same in
+          let ec : character (get_or (drop at t) k 0) ≡ c = ap (λ (x : Kept). x.character) same in
+          let en : at + k + 1 ≡ n = ap (λ (x : Kept). x.after) same in
           let bound = simp length-drop at b in
           let dn : at + suc k ≡ n = omega arith in
           let sn : suc (at + k) ≡ n = omega arith in

@@ -1,9 +1,9 @@
 -- The parity half of demand 3: rows with an odd number of holes changed are refused 5 at the first of them.
-use mathlib.Core.Path.{◌≡◌, refl, ap, ap₂, ◌∙◌, sym, subst}
+use mathlib.Core.Path.{◌≡◌, refl, ap, ◌∙◌}
 use mathlib.Core.Logic.{◌⊎◌, inl, inr, ⊎_elim}
-use mathlib.Core.Bool.{Bool, true, false, cond}
-use mathlib.Core.List.{List, [], ◌∷◌}
-use Prim.Native.Nat.{ℕ, zero, suc, ◌+◌, ◌*◌, ◌/◌, ◌%◌, ◌≤◌, ◌<◌}
+use mathlib.Core.Bool.{Bool, true, false}
+use mathlib.Core.List.{List}
+use Prim.Native.Nat.{ℕ, zero, suc, ◌+◌, ◌/◌, ◌%◌, ◌≤◌, ◌<◌}
 use native.Mathlib.Nat.{mod-lt, not-suc-le-zero}
 use native.Mathlib.Numerals.{add-one}
 use native.Mathlib.Omega.{arith}
@@ -14,11 +14,11 @@ use lib.Dec.{T, eqb, eqb→eq, lit<}
 use lib.ListN.{length, get_or}
 use borrow.Author.Count.{below_more}
 use borrow.Author.Tests.{le-ltb}
-use Rattle.rows.specs.Answer.{Answer, taken, refused}
-use Rattle.rows.specs.Row.{even, entry, character, characters, among}
-use Rattle.rows.specs.Stages.{limit, judged, barred, lowest}
+use Rattle.rows.specs.Answer.{refused}
+use Rattle.rows.specs.Row.{even, entry}
+use Rattle.rows.specs.Stages.{limit, judged, barred}
 use Rattle.rows.specs.Passes.{Every, Changed, Damaged, First}
-use Rattle.rows.specs.declared.Found.TheVariants.{At}
+use Rattle.std.specs.Prelude.{Some}
 use Rattle.rows.proofs.Lowest.{lowest-first}
 use Rattle.rows.proofs.Every.{every-at}
 use Rattle.rows.proofs.Entry.{even-entry}
@@ -83,7 +83,7 @@ module _ (s t : List ℕ) (all : Every (λ b. T (even b)) s) (d : Damaged s t) w
   unfolding judged
   damaged h k f =
       let same = d.length_kept in
-      let first : barred 5 0 t ≡ At k =
+      let first : barred 5 0 t ≡ Some k =
       lowest-first (λ b. eqb (entry b) 133) t k (omega (arith, f.within)) (odd-entry _ (changed-odd _ _ (even-at k f.within) f.changed))
       (λ j g. rw (f.before j g) ((even-entry _).1 (even-at j (omega (arith, f.within))))) in
       rw (le-ltb limit (length t) (omega arith), first)

@@ -1,5 +1,5 @@
 -- The first three stages refuse by 4 to 7 exactly where the relation on rows says so.
-use Prim.Native.Nat.{ℕ, ◌+◌, ◌≤◌, ◌<◌}
+use Prim.Native.Nat.{ℕ, ◌≤◌, ◌<◌}
 use native.Mathlib.Nat.{zero-add}
 use native.Mathlib.Omega.{arith}
 use mathlib.Core.Path.{◌≡◌, refl}
@@ -13,7 +13,7 @@ use Rattle.rows.specs.Row.{even, entry}
 use Rattle.rows.specs.Stages.{limit, barred, scan, refuse_at, judged}
 use Rattle.rows.specs.Answer.{taken, refused, ◌>>◌}
 use Rattle.rows.specs.Faults.{Fault, stray, unclosed, inside, behind_row, behind_remark, Odd, Foreign, None, RowRefusal, long, odd, foreign, fault}
-use Rattle.rows.specs.declared.Found.{Found}
+use Rattle.std.specs.Prelude.{Option}
 use Rattle.rows.specs.declared.Side.TheVariants.{Outside}
 use Rattle.rows.proofs.Outcomes.{Holds, refusal, value, of-refused}
 use Rattle.rows.proofs.Entry.{even-entry, known-entry}
@@ -55,15 +55,15 @@ module _ (t : List ℕ) where
       (λ p h. (h.0, not_taken _ _ (known-entry (get_or t p 0) (all-even n p h.0)) h.1)) (test-finds (λ b. eqb (entry b) 134) t 0)
 
   -- 7 and nothing else is left
-  third : length t ≤ limit → None (Odd t) → None (Foreign t) → {x : Found} → Finds (Fault t) 0 x → Holds (RowRefusal t) (λ u. Unit {0}) (refuse_at 7 x)
+  third : length t ≤ limit → None (Odd t) → None (Foreign t) → {x : Option ℕ} → Finds (Fault t) 0 x → Holds (RowRefusal t) (λ u. Unit {0}) (refuse_at 7 x)
   third l o f (nothing n) = value tt
   third l o f (lowest_one p k) = rw zero-add (refusal (fault l o f k))
 
-  second : length t ≤ limit → None (Odd t) → {x : Found} → Finds (Foreign t) 0 x → Holds (RowRefusal t) (λ u. Unit {0}) (refuse_at 6 x >> refuse_at 7 (scan Outside 0 t))
+  second : length t ≤ limit → None (Odd t) → {x : Option ℕ} → Finds (Foreign t) 0 x → Holds (RowRefusal t) (λ u. Unit {0}) (refuse_at 6 x >> refuse_at 7 (scan Outside 0 t))
   second l o (nothing n) = third l o n (scan-finds t)
   second l o (lowest_one p k) = rw zero-add (refusal (foreign l o k))
 
-  first : length t ≤ limit → {x : Found} → Finds (Odd t) 0 x → Holds (RowRefusal t) (λ u. Unit {0}) (refuse_at 5 x >> refuse_at 6 (barred 6 0 t) >> refuse_at 7 (scan Outside 0 t))
+  first : length t ≤ limit → {x : Option ℕ} → Finds (Odd t) 0 x → Holds (RowRefusal t) (λ u. Unit {0}) (refuse_at 5 x >> refuse_at 6 (barred 6 0 t) >> refuse_at 7 (scan Outside 0 t))
   first l (nothing n) = second l n (foreign-finds n)
   first l (lowest_one p k) = rw zero-add (refusal (odd l k))
 

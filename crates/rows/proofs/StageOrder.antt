@@ -11,11 +11,11 @@ use Rattle.rows.specs.Answer.{refused}
 use Rattle.rows.specs.Row.{character, entry}
 use Rattle.rows.specs.Stages.{limit, barred, step, judged}
 use Rattle.rows.specs.Walk.{held_from, concluded, held_by, held_behind, is_foreign, inside}
-use Rattle.rows.specs.declared.Found.TheVariants.{Nowhere, At}
+use Rattle.std.specs.Prelude.{None, Some}
 use Rattle.rows.specs.declared.Side.{Side}
 use Rattle.rows.specs.declared.Side.TheVariants.{Outside, Inside, Spoilt}
-use Rattle.rows.specs.declared.Step.{Step}
-use Rattle.rows.specs.declared.Step.TheVariants.{On, Fault}
+use Rattle.std.specs.Prelude.{Result}
+use Rattle.std.specs.Prelude.{Ok, Err}
 use Rattle.rows.specs.declared.Held.{Held}
 use Rattle.rows.specs.declared.Held.TheVariants.{Foreign, Sides}
 use Rattle.rows.proofs.Entry.{entry-highest, entry-character}
@@ -25,7 +25,7 @@ use Rattle.rows.proofs.Walks.{lowest-hit, lowest-miss, lowest-end, scan-on, scan
 
 module _ (t : List ℕ) (i : ℕ) (h : i < length t) (c : ℕ) (is : c ≡ entry (get_or t i 0)) where
   -- the lowest row of a refusal is this one, or stands behind it
-  here : (n : ℕ) → c ≡ 128 + n → barred n i (drop i t) ≡ At i
+  here : (n : ℕ) → c ≡ 128 + n → barred n i (drop i t) ≡ Some i
   here n e = lowest-hit t i (λ b. eqb (entry b) (128 + n)) h (eq-eqb _ _ (sym is ∙ e))
 
   later : (n : ℕ) → (c ≡ 128 + n → ⊥) → barred n i (drop i t) ≡ barred n (i + 1) (drop (i + 1) t)
@@ -35,9 +35,9 @@ module _ (t : List ℕ) (i : ℕ) (h : i < length t) (c : ℕ) (is : c ≡ entry
   character-step : (m : Side) → c < 133 → step m i (character (get_or t i 0)) ≡ step m i c
   character-step m l = ap (step m i) (sym (is ∙ entry-character (get_or t i 0) (omega (arith, l, is))))
 
-  stepped : (m : Side) → c < 133 → (x : Step) → step m i c ≡ x → held_from (Sides m) i (drop i t) ≡ held_from (held_by x) (i + 1) (drop (i + 1) t)
-  stepped m l (On n) e = rw (later 5 (λ q. omega (arith, l, q)), later 6 (λ q. omega (arith, l, q)), scan-on t i m n h (character-step m l ∙ e))
-  stepped m l (Fault p) e = rw (later 5 (λ q. omega (arith, l, q)), later 6 (λ q. omega (arith, l, q)), scan-fault t i m p h (character-step m l ∙ e))
+  stepped : (m : Side) → c < 133 → (x : Result Side ℕ) → step m i c ≡ x → held_from (Sides m) i (drop i t) ≡ held_from (held_by x) (i + 1) (drop (i + 1) t)
+  stepped m l (Ok n) e = rw (later 5 (λ q. omega (arith, l, q)), later 6 (λ q. omega (arith, l, q)), scan-on t i m n h (character-step m l ∙ e))
+  stepped m l (Err p) e = rw (later 5 (λ q. omega (arith, l, q)), later 6 (λ q. omega (arith, l, q)), scan-fault t i m p h (character-step m l ∙ e))
 
   -- an odd row is the answer
   pub held-odd : c ≡ 133 → (g : Held) → held_from g i (drop i t) ≡ refused 5 i
@@ -47,7 +47,7 @@ module _ (t : List ℕ) (i : ℕ) (h : i < length t) (c : ℕ) (is : c ≡ entry
   pub held_plain : c < 133 → (c ≡ 40 → ⊥) → (c ≡ 41 → ⊥) → (g : Held) → inside g ≡ false → held_from g i (drop i t) ≡ held_from g (i + 1) (drop (i + 1) t)
   held_plain l m n (Foreign p) e = rw (later 5 (λ q. omega (arith, l, q)))
   held_plain l m n (Held.Fault p) e = rw (later 5 (λ q. omega (arith, l, q)), later 6 (λ q. omega (arith, l, q)))
-  held_plain l m n (Sides Outside) e = stepped Outside l (On Outside) (rw (ne_eqb c 40 m, ne_eqb c 41 n))
+  held_plain l m n (Sides Outside) e = stepped Outside l (Ok Outside) (rw (ne_eqb c 40 m, ne_eqb c 41 n))
   held_plain l m n (Sides (Inside o)) e = let z : ◌≡◌ {A = ℕ} 0 1 = cc in absurd (omega arith)
   held_plain l m n (Sides (Spoilt o p)) e = let z : ◌≡◌ {A = ℕ} 0 1 = cc in absurd (omega arith)
 
@@ -71,7 +71,7 @@ module _ (t : List ℕ) (i : ℕ) (h : i < length t) (c : ℕ) (is : c ≡ entry
 -- ---- the end, and the whole tape
 
 module _ (t : List ℕ) (i : ℕ) (h : length t ≤ i) where
-  none : (n : ℕ) → barred n i (drop i t) ≡ Nowhere
+  none : (n : ℕ) → barred n i (drop i t) ≡ None
   none n = lowest-end t i (λ b. eqb (entry b) (128 + n)) h
 
   pub held-end : (g : Held) → held_from g i (drop i t) ≡ concluded g

@@ -10,9 +10,9 @@ use lib.Seq.{drop-cons}
 use Rattle.rows.specs.Row.{character}
 use Rattle.rows.specs.Stages.{lowest, step, unclosed, scan}
 use Rattle.rows.specs.Kept.{within, stays, turn, kept_from}
-use Rattle.rows.specs.declared.Found.TheVariants.{Nowhere, At}
+use Rattle.std.specs.Prelude.{None, Some}
 use Rattle.rows.specs.declared.Side.{Side}
-use Rattle.rows.specs.declared.Step.TheVariants.{On, Fault}
+use Rattle.std.specs.Prelude.{Ok, Err}
 use Rattle.rows.specs.declared.Turn.TheVariants.{Keep, Pass}
 
 -- what a turn tells of the row
@@ -25,7 +25,7 @@ passed-row true x v e = let z : ◌≡◌ {A = ℕ} 0 1 = cc in absurd (omega ar
 passed-row false x v e = (refl, cc)
 
 module _ (t : List ℕ) (i : ℕ) where
-  pub lowest-hit : (f : ℕ → Bool) → i < length t → f (get_or t i 0) ≡ true → lowest f i (drop i t) ≡ At i
+  pub lowest-hit : (f : ℕ → Bool) → i < length t → f (get_or t i 0) ≡ true → lowest f i (drop i t) ≡ Some i
   unfolding lowest
   lowest-hit f h e = rw (drop-cons t i 0, e)
 
@@ -33,15 +33,15 @@ module _ (t : List ℕ) (i : ℕ) where
   unfolding lowest
   lowest-miss f h e = rw (add-one, drop-cons t i 0, e)
 
-  pub lowest-end : (f : ℕ → Bool) → length t ≤ i → lowest f i (drop i t) ≡ Nowhere
+  pub lowest-end : (f : ℕ → Bool) → length t ≤ i → lowest f i (drop i t) ≡ None
   unfolding lowest
   lowest-end f h = rw (drop_of_length-le t h)
 
-  pub scan-on : (m n : Side) → i < length t → step m i (character (get_or t i 0)) ≡ On n → scan m i (drop i t) ≡ scan n (i + 1) (drop (i + 1) t)
+  pub scan-on : (m n : Side) → i < length t → step m i (character (get_or t i 0)) ≡ Ok n → scan m i (drop i t) ≡ scan n (i + 1) (drop (i + 1) t)
   unfolding scan
   scan-on m n h e = rw (add-one, drop-cons t i 0, e)
 
-  pub scan-fault : (m : Side) (p : ℕ) → i < length t → step m i (character (get_or t i 0)) ≡ Fault p → scan m i (drop i t) ≡ At p
+  pub scan-fault : (m : Side) (p : ℕ) → i < length t → step m i (character (get_or t i 0)) ≡ Err p → scan m i (drop i t) ≡ Some p
   unfolding scan
   scan-fault m p h e = rw (drop-cons t i 0, e)
 

@@ -1,8 +1,7 @@
 -- What every operation answers: a value, or a refusal by its number and place (document 01, "Refusal numbers").
-use Rattle.std.specs.Prelude.{ℕ}
-use Rattle.rows.specs.declared.Refusal.{Refusal}
-use Rattle.rows.specs.declared.Checked.{Checked}
-use Rattle.rows.specs.declared.Checked.TheVariants.{Clean, Refused}
+use Rattle.std.specs.Prelude.{ℕ, Result, Ok, Err}
+use Rattle.rows.specs.declared.refusals.Refusal.{Refusal}
+use Rattle.rows.specs.Refusals.{numbered}
 
 infixr 20 ◌>>◌ ◌>>=◌
 pub data Answer (A : Type 0) : Type 0 where
@@ -28,12 +27,17 @@ taken a >> b = b
 refused n p >> b = refused n p
 
 abbrev pub refusal : {A : Type 0} → Refusal → Answer A
-refusal r = refused r.number r.place
+refusal r = refused (numbered r.cause) r.place
 
--- what each case of `Checked` says
-abbrev pub told : Checked → Answer (Unit {0})
-told Clean = taken tt
-told (Refused r) = refusal r
+-- what a `Result` says
+abbrev pub told : {A : Type 0} → Result A Refusal → Answer A
+told (Ok a) = taken a
+told (Err r) = refusal r
+
+-- the same where its value stands for another
+abbrev pub told_by : {A B : Type 0} → (A → B) → Result A Refusal → Answer B
+told_by f (Ok a) = taken (f a)
+told_by f (Err r) = refusal r
 
 -- an answer without its value, for a record that stands beside the enum
 abbrev pub void : {A : Type 0} → Answer A → Answer (Unit {0})

@@ -1,10 +1,9 @@
 -- What remains of a tape when NUL, DEL and control-outs are taken away, each row with its place (document 01, stage 3).
-use Rattle.std.specs.Prelude.{ℕ, suc, ◌+◌, Bool, true, false, ◌||◌, not, cond, List, [], ◌∷◌, drop, eqb}
+use Rattle.std.specs.Prelude.{ℕ, suc, ◌+◌, Bool, true, false, ◌||◌, not, cond, List, [], ◌∷◌, drop, eqb, Option, Some, None}
 use Rattle.rows.specs.Row.{character}
 use Rattle.rows.specs.declared.Turn.{Turn}
 use Rattle.rows.specs.declared.Turn.TheVariants.{Keep, Pass}
-use Rattle.rows.specs.declared.Next.{Next}
-use Rattle.rows.specs.declared.Next.TheVariants.{Row, End}
+use Rattle.rows.specs.declared.Kept.{Kept}
 
 -- a kept row: where it stands on the tape, and its character
 pub record KeptRow : Type 0 where
@@ -41,6 +40,6 @@ abbrev pub kept : List ℕ → List KeptRow
 kept t = kept_at t 0
 
 -- the first of some kept rows, with the place after it
-abbrev pub first_of : List KeptRow → Next
-first_of [] = End
-first_of (r ∷ rs) = Row r.char r.place (r.place + 1)
+abbrev pub first_of : List KeptRow → Option Kept
+first_of [] = None
+first_of (r ∷ rs) = Some (record { character = r.char; place = r.place; after = r.place + 1 })

@@ -1,5 +1,5 @@
 -- One row of the tape: its character, its parity, and what the table of all 256 rows must hold (document 01, "Rows and characters").
-use Rattle.std.specs.Prelude.{ℕ, ◌+◌, ◌%◌, ◌<◌, ◌≡◌, Bool, true, false, ◌||◌, cond, List, [], ◌∷◌, eqb, length, get_or}
+use Rattle.std.specs.Prelude.{ℕ, ◌+◌, ◌%◌, ◌<◌, ◌≡◌, Bool, false, ◌||◌, cond, List, [], ◌∷◌, eqb, length, get_or}
 use Rattle.std.specs.Int.Count.{ones}
 
 -- the lower seven bits are the character

@@ -1,11 +1,10 @@
 -- The walk of the first three stages: what it holds of the rows behind it, and what is answered of those to come.
-use Rattle.std.specs.Prelude.{ℕ, ◌+◌, ◌≤◌, ◌<◌, ◌≡◌, Bool, true, false, cond, List, eqb, length, get_or, drop}
+use Rattle.std.specs.Prelude.{ℕ, ◌+◌, ◌≤◌, ◌<◌, ◌≡◌, Bool, true, false, cond, List, eqb, length, get_or, drop, Option, Some, None, Result, Ok, Err}
 use Rattle.rows.specs.Answer.{Answer, refused, ◌>>◌}
 use Rattle.rows.specs.Row.{entry}
 use Rattle.rows.specs.Stages.{barred, step, unclosed, scan, refuse_at}
+use Rattle.rows.specs.declared.Side.{Side}
 use Rattle.rows.specs.declared.Side.TheVariants.{Outside, Inside, Spoilt}
-use Rattle.rows.specs.declared.Step.{Step}
-use Rattle.rows.specs.declared.Step.TheVariants.{On}
 use Rattle.rows.specs.declared.Held.{Held}
 use Rattle.rows.specs.declared.Held.TheVariants.{Foreign, Fault, Sides}
 use Rattle.rows.specs.declared.Mark.{Mark}
@@ -26,9 +25,9 @@ concluded (Foreign p) = refused 6 p
 concluded (Fault p) = refused 7 p
 concluded (Sides m) = refuse_at 7 (unclosed m)
 
-abbrev pub held_by : Step → Held
-held_by (On m) = Sides m
-held_by (Step.Fault p) = Fault p
+abbrev pub held_by : Result Side ℕ → Held
+held_by (Ok m) = Sides m
+held_by (Err p) = Fault p
 
 -- the entry of a row that is not one of the 50: 128 and the refusal's number
 abbrev pub is_foreign : ℕ → Bool
@@ -49,6 +48,7 @@ inside (Sides (Inside o)) = true
 inside (Sides (Spoilt o p)) = true
 
 -- from a place on nothing changes what is held up to a row, whose entry is told; or to the end
-abbrev pub Marked : List ℕ → Held → ℕ → Mark → Type 0
-Marked t h at Mark.End = held_from h at (drop at t) ≡ concluded h
-Marked t h at (Mark.At i c) = (at ≤ i) × (i < length t) × (c ≡ entry (get_or t i 0)) × (held_from h at (drop at t) ≡ held_from h i (drop i t))
+abbrev pub Marked : List ℕ → Held → ℕ → Option Mark → Type 0
+Marked t h at None = held_from h at (drop at t) ≡ concluded h
+Marked t h at (Some m) =
+    (at ≤ m.place) × (m.place < length t) × (m.entry ≡ entry (get_or t m.place 0)) × (held_from h at (drop at t) ≡ held_from h m.place (drop m.place t))

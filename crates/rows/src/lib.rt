@@ -3,35 +3,16 @@
 
 ghost use Rattle.std.specs.Prelude.{◌≡◌, ◌+◌};
 ghost use Rattle.rows.specs.Answer.{told};
-ghost use Rattle.rows.specs.Row.{entry, Tabulated, even};
+ghost use Rattle.rows.specs.Row.{entry, even};
 ghost use Rattle.rows.specs.Stages.{step, unclosed, judged};
 ghost use Rattle.rows.specs.Walk.{inside, held_from, concluded, held_behind, Marked};
 ghost use Rattle.rows.specs.Kept.{turn, kept_at, first_of};
 
+mod refusals;
 mod table;
 
-use table::ROWS;
-
-// A refusal: its number in document 01's table, and its place.
-#[derive(Clone, Copy)]
-pub struct Refusal {
-    pub number: u32,
-    pub place: usize,
-}
-
-// The answer of the first three stages.
-#[derive(Clone, Copy)]
-pub enum Checked {
-    Clean,
-    Refused(Refusal),
-}
-
-// A row of the tape that was looked for.
-#[derive(Clone, Copy)]
-pub enum Found {
-    Nowhere,
-    At(usize),
-}
+pub use refusals::{Cause, Refusal};
+use table::{FOREIGN, ODD, Table};
 
 // Where the scan of control-outs stands: outside; inside the one that a row opened; inside one that a second row spoilt.
 #[derive(Clone, Copy)]
@@ -39,12 +20,6 @@ pub enum Side {
     Outside,
     Inside(usize),
     Spoilt(usize, usize),
-}
-
-#[derive(Clone, Copy)]
-pub enum Step {
-    On(Side),
-    Fault(usize),
 }
 
 // What the walk holds of the rows behind it, none of which is odd: the lowest that is not one of the 50; or else the lowest fault of the control-outs; or else
@@ -58,36 +33,30 @@ enum Held {
 
 // A row that may change what is held, with its entry.
 #[derive(Clone, Copy)]
-enum Mark {
-    End,
-    At(usize, u8),
+struct Mark {
+    place: usize,
+    entry: u8,
 }
 
 // What the walk over kept rows does at a row: keep it, or pass it by, the next row inside a control-out or not.
+// Stays so: an Option of a bool would not say which of its cases keeps the row.
 #[derive(Clone, Copy)]
 pub enum Turn {
     Keep,
     Pass(bool),
 }
 
-// The next kept row and the place after it.
+// A kept row, and the place after it.
+// A char and not a byte: the seven bytes behind a byte are copied with it in two moves that overlap, which took a quarter of the time
 #[derive(Clone, Copy)]
-pub enum Next {
-    End,
-    Row {
-        character: u8,
-        place: usize,
-        after: usize,
-    },
+pub struct Kept {
+    pub character: char,
+    pub place: usize,
+    pub after: usize,
 }
 
 // The most rows that a tape may have.
 pub const LIMIT: usize = 1000000;
-
-// What the table holds for a row that is odd, and for one that is even and not one of the 50 characters.
-const ODD: u8 = 133;
-
-const FOREIGN: u8 = 134;
 
 // Whether a row has an even number of holes, by the count itself and not by the table.
 pub fn has_even_holes(row: u8) -> bool
@@ -96,57 +65,43 @@ pub fn has_even_holes(row: u8) -> bool
     u8::count_ones(row) % 2 == 0
 }
 
-// The table, laid out once for a whole tape and not for each row.
-fn lay_out() -> [u8; 256]
-    ensures { Tabulated result }
-{
-    ROWS
-}
-
-fn look_up(table: &[u8], row: u8) -> u8
-    requires { Tabulated table.now }
-    ensures { result ≡ entry row }
-{
-    table[row as usize]
-}
-
 // What the table holds of a row.
 pub fn entry_of(row: u8) -> u8
     ensures { result ≡ entry row }
 {
-    let table = lay_out();
-    look_up(&table[..], row)
+    Table::lay_out().entry(row)
 }
 
-// One row of the scan for control-outs.
-fn step_over(side: Side, i: usize, c: u8) -> Step
+// One row of the scan for control-outs: where it stands behind the row, or the place of a fault.
+fn step_over(side: Side, i: usize, c: u8) -> Result<Side, usize>
     ensures { result ≡ step side i c }
 {
     match side {
         Side::Outside => match c {
-            40 => Step::On(Side::Inside(i)),
-            41 => Step::Fault(i),
-            _ => Step::On(Side::Outside),
+            b'(' => Ok(Side::Inside(i)),
+            b')' => Err(i),
+            _ => Ok(Side::Outside),
         },
         Side::Inside(o) => match c {
-            41 => Step::On(Side::Outside),
-            58 | 37 => Step::On(Side::Spoilt(o, i)),
-            _ => Step::On(Side::Inside(o)),
+            b')' => Ok(Side::Outside),
+            b':' | b'%' => Ok(Side::Spoilt(o, i)),
+            _ => Ok(Side::Inside(o)),
         },
         Side::Spoilt(o, p) => match c {
-            41 => Step::Fault(p),
-            _ => Step::On(Side::Spoilt(o, p)),
+            b')' => Err(p),
+            _ => Ok(Side::Spoilt(o, p)),
         },
     }
 }
 
-fn left_open(side: Side) -> Found
+// The row of a "(" that is still open.
+fn left_open(side: Side) -> Option<usize>
     ensures { result ≡ unclosed side }
 {
     match side {
-        Side::Outside => Found::Nowhere,
-        Side::Inside(o) => Found::At(o),
-        Side::Spoilt(o, _) => Found::At(o),
+        Side::Outside => None,
+        Side::Inside(o) => Some(o),
+        Side::Spoilt(o, _) => Some(o),
     }
 }
 
@@ -165,31 +120,19 @@ fn is_inside(held: Held) -> bool
     }
 }
 
-// The next row from a place on that may change what is held, or the end of the tape. Here, and nowhere else, the walk reads the tape: the entry goes on with
-// the place, so that no row is fetched again.
-fn find_mark(tape: &[u8], table: &[u8], held: Held, at: usize) -> Mark
-    requires { Tabulated table.now }
+// The next row from a place on that may change what is held, if there is one. Here, and nowhere else, the walk reads the tape: the entry goes on with the
+// place, so that no row is fetched again.
+fn find_mark(tape: &[u8], table: &Table, held: Held, at: usize) -> Option<Mark>
     ensures { Marked tape.now held at result }
 {
     let every = is_inside(held);
-    let mut i = at;
-    while i < tape.len() {
-        let entry = look_up(table, tape[i]);
-        if every {
-            return Mark::At(i, entry);
+    for i in at..tape.len() {
+        let entry = table.entry(tape[i]);
+        if every || ODD <= entry || entry == b'(' || entry == b')' {
+            return Some(Mark { place: i, entry });
         }
-        if ODD <= entry {
-            return Mark::At(i, entry);
-        }
-        match entry {
-            40 | 41 => {
-                return Mark::At(i, entry);
-            }
-            _ => {}
-        }
-        i += 1;
     }
-    Mark::End
+    None
 }
 
 // What is held behind a row that is not odd: 6 before 7, and of each the lowest row.
@@ -210,90 +153,84 @@ fn hold_mark(held: Held, i: usize, entry: u8) -> Held
                 return Held::Foreign(i);
             }
             match step_over(side, i, entry) {
-                Step::On(m) => Held::Sides(m),
-                Step::Fault(p) => Held::Fault(p),
+                Ok(m) => Held::Sides(m),
+                Err(p) => Held::Fault(p),
             }
         }
     }
 }
 
 // The answer where no row is left.
-fn conclude(held: Held) -> Checked
+fn conclude(held: Held) -> Result<(), Refusal>
     ensures { told result ≡ concluded held }
 {
     match held {
-        Held::Foreign(place) => Checked::Refused(Refusal { number: 6, place }),
-        Held::Fault(place) => Checked::Refused(Refusal { number: 7, place }),
+        Held::Foreign(place) => Err(Cause::Character.at(place)),
+        Held::Fault(place) => Err(Cause::ControlOut.at(place)),
         Held::Sides(side) => match left_open(side) {
-            Found::Nowhere => Checked::Clean,
-            Found::At(place) => Checked::Refused(Refusal { number: 7, place }),
+            None => Ok(()),
+            Some(place) => Err(Cause::ControlOut.at(place)),
         },
     }
 }
 
 // 5, 6 and 7 in one walk, which fetches each row once: the first odd row is the answer at once, all else is held to the end of the tape.
-fn walk_rows(tape: &[u8], table: &[u8]) -> Checked
-    requires { Tabulated table.now }
+fn walk_rows(tape: &[u8], table: &Table) -> Result<(), Refusal>
     ensures { told result ≡ held_from (Held.Sides Side.Outside) 0 tape.now }
 {
     let mut held = Held::Sides(Side::Outside);
     let mut next: usize = 0;
-    loop {
-        let Mark::At(place, entry) = find_mark(tape, table, held, next) else {
-            return conclude(held);
-        };
-        if entry == ODD {
-            return Checked::Refused(Refusal { number: 5, place });
+    while let Some(mark) = find_mark(tape, table, held, next) {
+        let place = mark.place;
+        if mark.entry == ODD {
+            return Err(Cause::Parity.at(place));
         }
-        held = hold_mark(held, place, entry);
+        held = hold_mark(held, place, mark.entry);
         next = place + 1;
     }
+    conclude(held)
 }
 
-// Stages 1 to 3 of a whole tape, in document 01's order.
-pub fn check(tape: &[u8]) -> Checked
+// Stages 1 to 3 of a whole tape, in the order of the refusal table.
+pub fn check(tape: &[u8]) -> Result<(), Refusal>
     ensures { told result ≡ judged tape.now }
 {
     if LIMIT < tape.len() {
-        return Checked::Refused(Refusal {
-            number: 4,
-            place: LIMIT,
-        });
+        return Err(Cause::Length.at(LIMIT));
     }
-    let table = lay_out();
-    walk_rows(tape, &table[..])
+    walk_rows(tape, &Table::lay_out())
 }
 
 fn turn_at(within: bool, c: u8) -> Turn
     ensures { result ≡ turn within c }
 {
     if within {
-        return Turn::Pass(c != 41);
+        return Turn::Pass(c != b')');
     }
     match c {
-        40 => Turn::Pass(true),
+        b'(' => Turn::Pass(true),
         0 | 127 => Turn::Pass(false),
         _ => Turn::Keep,
     }
 }
 
 // The next kept row from a place on that stands outside every control-out.
-pub fn next_kept(tape: &[u8], at: usize) -> Next
+pub fn next_kept(tape: &[u8], at: usize) -> Option<Kept>
     ensures { result ≡ first_of (kept_at tape.now at) }
 {
     let mut within = false;
-    let mut i = at;
-    while i < tape.len() {
-        let c = tape[i] % 128;
-        let Turn::Pass(w) = turn_at(within, c) else {
-            return Next::Row {
-                character: c,
-                place: i,
-                after: i + 1,
-            };
-        };
-        within = w;
-        i += 1;
+    for place in at..tape.len() {
+        let character = tape[place] % 128;
+        match turn_at(within, character) {
+            Turn::Keep => {
+                return Some(Kept {
+                    character: character as char,
+                    place,
+                    after: place + 1,
+                });
+            }
+            Turn::Pass(inside) => within = inside,
+        }
     }
-    Next::End
+    None
 }

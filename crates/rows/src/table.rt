@@ -1,5 +1,34 @@
 // The table of all 256 rows: a row's character, or 133 where it is odd, or 134 where it is even and not one of the 50 characters.
-pub const ROWS: [u8; 256] = [
+ghost use Rattle.std.specs.Prelude.{◌≡◌};
+ghost use Rattle.rows.specs.Row.{entry, Tabulated};
+
+// What the table holds for a row that is odd, and for one that is even and not one of the 50 characters.
+// Stays so: numbers, and not an enum, since `entry_of` and the definitions `entry` and `Tabulated` are about numbers.
+pub(crate) const ODD: u8 = 133;
+
+pub(crate) const FOREIGN: u8 = 134;
+
+// The table, laid out once for a whole tape and not for each row.
+#[derive(Drop)]
+pub(crate) struct Table {
+    entries: [u8; 256],
+    ghost tabulated: { Tabulated entries },
+}
+
+impl Table {
+    pub(crate) fn lay_out() -> Table {
+        Table { entries: ROWS }
+    }
+
+    // What the table holds of a row.
+    pub(crate) fn entry(&self, row: u8) -> u8
+        ensures { result ≡ entry row }
+    {
+        self.entries[row as usize]
+    }
+}
+
+const ROWS: [u8; 256] = [
     0, 133, 133, 134, 133, 134, 134, 133, 133, 9, 10, 133, 134, 133, 133, 134, 133, 134, 134, 133,
     134, 133, 133, 134, 134, 133, 133, 134, 133, 134, 134, 133, 133, 134, 134, 133, 134, 133, 133,
     134, 40, 133, 133, 43, 133, 45, 134, 133, 48, 133, 133, 51, 133, 53, 54, 133, 133, 57, 58, 133,

@@ -1,13 +1,12 @@
 -- The pieces of a tape: together they are the tape, an LF row stands in a piece at its end alone, and the first piece ends where the first LF row does.
-use Prim.Native.Nat.{ℕ, suc, ◌≤◌, ◌<◌, zero-le, suc-le-suc}
+use Prim.Native.Nat.{ℕ, suc, ◌<◌, zero-le, suc-le-suc}
 use mathlib.Core.Path.{◌≡◌, refl, sym, ap, ◌∙◌}
 use mathlib.Core.Bool.{Bool, true, false, cond}
 use mathlib.Core.List.{List, [], ◌∷◌, ◌++◌, flatten}
 use native.Mathlib.Nat.{not-suc-le-zero}
 use lib.Count.{ones}
 use lib.Dec.{eqb}
-use lib.ListN.{length, get_or, drop, drop_of_length-le}
-use lib.Seq.{drop-cons}
+use lib.ListN.{length, drop}
 use Rattle.rows.specs.Row.{entry}
 use Rattle.rows.specs.Passes.{Every}
 use Rattle.rows.proofs.Tabulated.{tab-at}
@@ -53,7 +52,7 @@ module _ (b : ℕ) where
   onto-others false (r ∷ rs) t e h = h
 
   -- one that is none makes the first piece longer by itself
-  first-longer : (ps : List (List ℕ)) → length (first_in (on_first b ps)) ≡ suc (length (first_in ps))
+  pub first-longer : (ps : List (List ℕ)) → length (first_in (on_first b ps)) ≡ suc (length (first_in ps))
   first-longer [] = refl
   first-longer (r ∷ rs) = refl
 
@@ -109,23 +108,6 @@ parts_last t = by (divided t) (pieces-last t)
     by : (rs : List (List ℕ)) → Every LfLast rs → LfLast (first_in rs) × Every LfLast (others_in rs)
     by [] all = (tt, tt)
     by (r ∷ rs) all = all
-
--- ---- how long the first piece is, row by row
-
-module _ (t : List ℕ) (at : ℕ) where
-  -- a row that is not LF goes before the first piece of those behind it
-  pub row-longer : at < length t → is_lf (get_or t at 0) ≡ false → length (head_of (drop at t)) ≡ suc (length (head_of (drop (suc at) t)))
-  unfolding divided
-  row-longer l e = rw (drop-cons t at 0 l, e) (first-longer (get_or t at 0) (divided (drop (suc at) t)))
-
-  -- an LF row is a piece
-  pub lf-ends : at < length t → is_lf (get_or t at 0) ≡ true → length (head_of (drop at t)) ≡ 1
-  unfolding divided
-  lf-ends l e = rw (drop-cons t at 0 l, e)
-
-  pub none_left : length t ≤ at → length (head_of (drop at t)) ≡ 0
-  unfolding divided
-  none_left l = rw (drop_of_length-le t {i = at} l)
 
 -- a row below 256 is an LF row just where it is row 10
 pub lf-row : (b : ℕ) → b < 256 → is_lf b ≡ eqb b 10

@@ -15,11 +15,9 @@ use Rattle.rows.specs.Passes.{Every}
 use Rattle.rows.proofs.Entry.{entry-character}
 use Rattle.rows.proofs.Every.{every_front, every_back}
 use Rattle.rows.proofs.Formed.{not-among}
-use Rattle.rows.proofs.KeptRows.{past-remark, kept-chars}
-use Rattle.rows.proofs.TapesJoined.{kept_append}
+use Rattle.rows.proofs.KeptRows.{past-remark}
 use Rattle.shorthand.proofs.Tests.{holds}
 use Rattle.reading.specs.Relation.{chars}
-use Rattle.reading.proofs.Outcomes.{chars-append}
 use Rattle.reading.proofs.BlockParts.{PartAs}
 use Rattle.reading.proofs.MovedRows.{chars-behind}
 use Rattle.salvage.specs.Pieces.{is_lf, divided}

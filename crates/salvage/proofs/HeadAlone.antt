@@ -17,7 +17,7 @@ use Rattle.rows.proofs.TapeParts.{divided-at}
 use Rattle.shorthand.specs.declared.Format.{Format}
 use Rattle.shorthand.proofs.Tests.{holds}
 use Rattle.reading.specs.Relation.{End, lf, cr_lf, chars}
-use Rattle.reading.specs.Parse.{Entry}
+use Rattle.reading.specs.declared.Entry.{Entry}
 use Rattle.reading.specs.Answers.{read}
 use Rattle.reading.specs.Survey.{alone}
 use Rattle.reading.proofs.ReadBlocks.{last_some, HeadRows, Entries, ProgramRows}

@@ -3,6 +3,7 @@
 -- the pieces of a tape, and what is answered of one behind the head
 pub mod Dividing
 pub mod HeadAlone
+pub mod FirstLF
 pub mod PieceCounts
 pub mod PieceWalk
 pub mod SavedAnswers

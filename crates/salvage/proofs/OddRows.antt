@@ -21,7 +21,7 @@ use Rattle.salvage.specs.Pieces.{head_of, pieces_of}
 use Rattle.salvage.specs.Saving.{piece_number, salvaged_for}
 use Rattle.salvage.proofs.Dividing.{head-whole}
 use Rattle.salvage.proofs.HeadAlone.{piece-alone}
-use Rattle.salvage.proofs.PieceCounts.{alone-refused}
+use Rattle.salvage.proofs.PieceCounts.{alone-refused, own_number}
 
 -- an odd row in the head: 5 at its first
 pub odd-head : (f : Format) (t : List ℕ) (firsts sizes numbers p : ℕ) → length t ≤ limit → Lowest (Odd (head_of t)) p → salvaged_for f t firsts sizes numbers ≡ refused 5 p
@@ -46,4 +46,4 @@ pub odd-piece : (f : Format) {h : List ℕ} → OnlyHead h → (r : List ℕ) (q
 odd-piece f {h} head r q l o = piece-alone f head r l ∙ listed (odd-judged r q (omega (arith, l, length-append h r)) o)
   where
     listed : (p : ℕ) × (judged r ≡ refused 5 p) → number_of (alone f r) ≡ 5
-    listed k = sym (alone-refused f r 5 k.0 (sym k.1))
+    listed k = sym (own_number (alone f r) 5 k.0 (alone-refused f r 5 k.0 (sym k.1)))

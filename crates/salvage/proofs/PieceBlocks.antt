@@ -2,7 +2,7 @@
 use Prim.Native.Nat.{ℕ, ◌≤◌, ◌<◌}
 use mathlib.Core.Path.{◌≡◌, refl, ap, ◌∙◌, subst}
 use mathlib.Core.Bool.{false}
-use mathlib.Core.List.{List, [], ◌∷◌, ◌++◌, map, map-map}
+use mathlib.Core.List.{List, [], ◌∷◌, ◌++◌, map}
 use native.Mathlib.Nat.{ne_of_gt}
 use native.Mathlib.Omega.{arith}
 use lib.Dec.{lit≤}
@@ -10,7 +10,6 @@ use lib.ListN.{length, length-append, length-replicate}
 use borrow.Author.Tests.{ne_eqb}
 use Rattle.rows.specs.Answer.{Answer, taken, refused, number_of, value_or}
 use Rattle.rows.specs.Kept.{KeptRow, kept}
-use Rattle.rows.specs.ControlOut.{WellFormed}
 use Rattle.rows.specs.Faults.{RowRefusal, long, odd, foreign, fault}
 use Rattle.rows.specs.Passes.{Every, Passes}
 use Rattle.rows.specs.Stages.{limit}
@@ -29,9 +28,9 @@ use Rattle.shorthand.specs.declared.Format.{Format}
 use Rattle.shorthand.specs.Layout.{items_of}
 use Rattle.reading.specs.declared.Block.{Block}
 use Rattle.reading.specs.Relation.{Blocks, none, chars}
-use Rattle.reading.specs.Parse.{Entry}
+use Rattle.reading.specs.declared.Entry.{Entry}
 use Rattle.reading.specs.Answers.{program_at, read}
-use Rattle.reading.proofs.Outcomes.{Placed, no_row, next_row, chars-append}
+use Rattle.reading.proofs.Outcomes.{Placed, no_row, next_row}
 use Rattle.reading.proofs.ReadData.{Sayable}
 use Rattle.reading.proofs.ReadBlocks.{program-read}
 use Rattle.reading.proofs.Sound.{taken-rows, entries-stand}

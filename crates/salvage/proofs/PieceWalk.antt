@@ -6,21 +6,25 @@ use mathlib.Core.List.{List, [], ◌∷◌, ◌++◌, map, append_assoc, append-
 use native.Mathlib.Nat.{le_refl}
 use native.Mathlib.Omega.{arith}
 use lib.Dec.{eqb}
-use lib.ListN.{length, take, drop, set, replicate, length-append, take-append-drop, length-drop, length-replicate, drop_of_length-le}
+use lib.ListN.{length, take, drop, set, length-append, take-append-drop, length-drop, length-replicate, drop_of_length-le}
 use lib.Seq.{take_at, drop_at, drop-drop, length-take-le, take_all}
 use borrow.Author.Tests.{ne_eqb}
-use Rattle.rows.specs.Answer.{taken}
+use Rattle.rows.specs.Answer.{taken, void}
 use Rattle.rows.specs.Stages.{limit}
 use Rattle.shorthand.specs.declared.Format.{Format}
+use Rattle.reading.specs.Answers.{read}
 use Rattle.reading.proofs.BehindHead.{OnlyHead}
 use Rattle.punching.specs.Answers.{after}
 use Rattle.index.proofs.Filling.{Filled, filled_more}
-use Rattle.salvage.specs.declared.Passed.{Passed}
-use Rattle.salvage.specs.Pieces.{divided, head_of, pieces_of}
+use Rattle.salvage.specs.Pieces.{divided, head_of}
 use Rattle.salvage.specs.Saving.{piece_number, overpunched, saved_piece, saved_rows, Loss, with_loss, losses, saved_of}
 use Rattle.salvage.specs.Turns.{piece_at, alone_at, losses_by, lost_at}
-use Rattle.salvage.proofs.Dividing.{first_piece, first_some, first-front, others-behind}
-use Rattle.salvage.proofs.HeadAlone.{piece-alone}
+use Rattle.salvage.proofs.Dividing.{parts_last, first_piece, first_some, first-front, others-behind}
+use Rattle.salvage.proofs.HeadAlone.{only-head, piece-alone}
+
+-- a head that was accepted is a head and nothing else
+pub head-only : (f : Format) (t : List ℕ) → taken tt ≡ void (read f (head_of t)) → OnlyHead (head_of t)
+head-only f t e = (only-head f (head_of t) (parts_last t).0 e).0
 
 -- the piece that begins at a row before the end: the rows from there on are it and the pieces behind it
 pub record Next (t : List ℕ) (at : ℕ) : Type 0 where
@@ -101,13 +105,13 @@ losses-most n = by (eqb n 0)
     by false = omega arith
 
 -- one piece more is counted
-pub count_turn : (f : Format) {h : List ℕ} → OnlyHead h → (t : List ℕ) (at lost end number total : ℕ) → length t ≤ limit → length h ≤ at → at < length t → end ≡ at + length (piece_at t at)
-    → number ≡ alone_at f t at → lost + length (losses f h at (divided (drop at t))) ≡ total → lost ≤ at
-    → (length h ≤ end) × (end ≤ length t) × (lost + losses_by number + length (losses f h end (divided (drop end t))) ≡ total) × (lost + losses_by number ≤ end) × (at < end)
-count_turn f {h} o t at lost end number total short before l e q all few =
+pub count_turn : (f : Format) {h : List ℕ} → OnlyHead h → (t : List ℕ) (at lost end total : ℕ) → length t ≤ limit → length h ≤ at → at < length t → end ≡ at + length (piece_at t at)
+    → lost + length (losses f h at (divided (drop at t))) ≡ total → lost ≤ at
+    → (length h ≤ end) × (end ≤ length t) × (lost + lost_at f t at + length (losses f h end (divided (drop end t))) ≡ total) × (lost + lost_at f t at ≤ end) × (at < end)
+count_turn f {h} o t at lost end total short before l e all few =
     let k = next-piece t at l in
     let turn = ap length (losses-turn f o t at short before l) ∙ with-length (alone_at f t at) at (length (piece_at t at)) (losses f h (at + length (piece_at t at)) (divided (drop (at + length (piece_at t at)) t))) in
-    rw (e, q) (omega (arith, before), k.within, omega (arith, all, turn), omega (arith, few, k.some, losses-most (alone_at f t at)), omega (arith, k.some))
+    rw e (omega (arith, before), k.within, omega (arith, all, turn), omega (arith, few, k.some, losses-most (alone_at f t at)), omega (arith, k.some))
 
 -- what is lost of a tape, from the end of its head on
 pub lost-all : (f : Format) (t : List ℕ) → (saved_of f t).lost ≡ losses f (head_of t) (length (head_of t)) (divided (drop (length (head_of t)) t))
@@ -126,49 +130,44 @@ count-end f h t at lost total l e = omega (arith, rw (over-divided t at l) at e)
 
 -- ---- one piece, as it is left
 
-module _ (f : Format) (t : List ℕ) (at : ℕ) {end number : ℕ} (e : end ≡ at + length (piece_at t at)) (q : number ≡ alone_at f t at) where
+module _ (f : Format) (t : List ℕ) (at : ℕ) where
   -- it stays
-  module _ (z : number ≡ 0) where
-    none : alone_at f t at ≡ 0
-    none = sym q ∙ z
+  module _ (none : alone_at f t at ≡ 0) where
+    pub none_lost : lost_at f t at ≡ 0
+    none_lost = rw none
 
-    pub stays-passed : (n : ℕ) → ◌≡◌ {A = Passed} (record { at = end; listed = n }) (record { at = at + length (piece_at t at); listed = n + lost_at f t at })
-    stays-passed n = let same : n ≡ n + 0 = omega arith in rw (none, e) (ap (λ k. record { at = at + length (piece_at t at); listed = k }) same)
-
-    pub stays-tape : t ≡ take at t ++ (saved_piece (alone_at f t at) (piece_at t at) ++ drop (at + length (piece_at t at)) t)
+    stays-tape : t ≡ take at t ++ (saved_piece (alone_at f t at) (piece_at t at) ++ drop (at + length (piece_at t at)) t)
     stays-tape =
         let p = piece_at t at in
         rw none (sym (take-append-drop at t) ∙ ap (λ x. take at t ++ x) (sym (first-front (drop at t)) ∙ ap (λ x. p ++ x) (drop-drop (length p) at t)))
 
-    pub stays-list : (l m : List ℕ) → l ≡ cond (eqb (alone_at f t at) 0) l m
+    stays-list : (l m : List ℕ) → l ≡ cond (eqb (alone_at f t at) 0) l m
     stays-list l m = rw none
 
   -- it is lost
-  module _ (z : number ≡ 0 → ⊥) where
+  module _ {number : ℕ} (q : number ≡ alone_at f t at) (z : 0 < number) where
     some : eqb (alone_at f t at) 0 ≡ false
-    some = ne_eqb (alone_at f t at) 0 (λ w. z (q ∙ w))
+    some = ne_eqb (alone_at f t at) 0 (λ w. omega (arith, z, q, w))
 
-    pub lost-passed : (n : ℕ) → ◌≡◌ {A = Passed} (record { at = end; listed = n + 1 }) (record { at = at + length (piece_at t at); listed = n + lost_at f t at })
-    lost-passed n = rw (some, e)
+    pub one_lost : lost_at f t at ≡ 1
+    one_lost = rw some
 
-    size : end - at ≡ length (piece_at t at)
-    size = omega (arith, e)
+    module _ {end : ℕ} (e : end ≡ at + length (piece_at t at)) where
+      size : end - at ≡ length (piece_at t at)
+      size = omega (arith, e)
 
-    pub lost-tape : (s : List ℕ) → s ≡ overpunched (take (end - at) (drop at t))
-        → take at t ++ (s ++ drop (end - at) (drop at t)) ≡ take at t ++ (saved_piece (alone_at f t at) (piece_at t at) ++ drop (at + length (piece_at t at)) t)
-    lost-tape s w = rw (some, w, piece-part t at end e, size) (ap (λ x. take at t ++ (overpunched (piece_at t at) ++ x)) (drop-drop (length (piece_at t at)) at t))
+      lost-tape : (s : List ℕ) → s ≡ overpunched (take (end - at) (drop at t))
+          → take at t ++ (s ++ drop (end - at) (drop at t)) ≡ take at t ++ (saved_piece (alone_at f t at) (piece_at t at) ++ drop (at + length (piece_at t at)) t)
+      lost-tape s w = rw (some, w, piece-part t at end e, size) (ap (λ x. take at t ++ (overpunched (piece_at t at) ++ x)) (drop-drop (length (piece_at t at)) at t))
 
-    pub lost-first : (l : List ℕ) (n : ℕ) → set l n at ≡ cond (eqb (alone_at f t at) 0) l (set l n at)
-    lost-first l n = rw some
+      lost-first : (l : List ℕ) (n : ℕ) → set l n at ≡ cond (eqb (alone_at f t at) 0) l (set l n at)
+      lost-first l n = rw some
 
-    pub lost-size : (l : List ℕ) (n : ℕ) → set l n (end - at) ≡ cond (eqb (alone_at f t at) 0) l (set l n (length (piece_at t at)))
-    lost-size l n = rw (some, size)
+      lost-size : (l : List ℕ) (n : ℕ) → set l n (end - at) ≡ cond (eqb (alone_at f t at) 0) l (set l n (length (piece_at t at)))
+      lost-size l n = rw (some, size)
 
-    pub lost-number : (l : List ℕ) (n : ℕ) → set l n number ≡ cond (eqb (alone_at f t at) 0) l (set l n (alone_at f t at))
-    lost-number l n = rw (some, q)
-
-    pub lost-room : (n size : ℕ) → n + lost_at f t at ≤ size → n < size
-    lost-room n size = rw some (λ (r : n + 1 ≤ size). omega (arith, r))
+      lost-number : (l : List ℕ) (n : ℕ) → set l n number ≡ cond (eqb (alone_at f t at) 0) l (set l n (alone_at f t at))
+      lost-number l n = rw (some, q)
 
 -- ---- one piece saved
 
@@ -261,7 +260,7 @@ module _ (f : Format) (t₀ firsts₀ sizes₀ numbers₀ : List ℕ) where
         let all : k.done ≡ (saved_of f t₀).lost = sym (append-nil k.done) ∙ rw none at k.all in
         (rows, rw (sym all) k.first.holds, rw (sym all) k.size.holds, rw (sym all) k.number.holds)
 
-    -- one piece more, as `save_piece` leaves it
+    -- one piece more, as it is left
     module _ (room : (length (saved_of f t₀).lost ≤ length firsts₀) × (length (saved_of f t₀).lost ≤ length sizes₀) × (length (saved_of f t₀).lost ≤ length numbers₀))
         (l : at < length t) {u : List ℕ} (e : u ≡ take at t ++ (saved_piece (alone_at f t at) (piece_at t at) ++ drop (at + length (piece_at t at)) t)) where
       abbrev end : ℕ
@@ -300,11 +299,11 @@ module _ (f : Format) (t₀ firsts₀ sizes₀ numbers₀ : List ℕ) where
             number = number;
           }
 
-      pub saves-on : (p : Passed) (firsts₂ sizes₂ numbers₂ : List ℕ) → p ≡ record { at = end; listed = n + lost_at f t at }
+      saves-on : (n₂ : ℕ) (firsts₂ sizes₂ numbers₂ : List ℕ) → n₂ ≡ n + lost_at f t at
           → firsts₂ ≡ cond (eqb (alone_at f t at) 0) firsts (set firsts n at) → sizes₂ ≡ cond (eqb (alone_at f t at) 0) sizes (set sizes n (length (piece_at t at)))
-          → numbers₂ ≡ cond (eqb (alone_at f t at) 0) numbers (set numbers n (alone_at f t at)) → Saves u firsts₂ sizes₂ numbers₂ p.at p.listed
-      saves-on p firsts₂ sizes₂ numbers₂ w =
-          rw w (by (n + lost_at f t at) (eqb (alone_at f t at) 0) (ap (λ x. k.done ++ x) (sym (losses-turn f o t at short-now k.before l)) ∙ k.all) refl)
+          → numbers₂ ≡ cond (eqb (alone_at f t at) 0) numbers (set numbers n (alone_at f t at)) → Saves u firsts₂ sizes₂ numbers₂ end n₂
+      saves-on n₂ firsts₂ sizes₂ numbers₂ w =
+          by n₂ (eqb (alone_at f t at) 0) (ap (λ x. k.done ++ x) (sym (losses-turn f o t at short-now k.before l)) ∙ k.all) w
         where
           by : (n₂ : ℕ) (x : Bool) → k.done ++ cond x rest (loss ∷ rest) ≡ (saved_of f t₀).lost → n₂ ≡ n + cond x 0 1 → firsts₂ ≡ cond x firsts (set firsts n at)
               → sizes₂ ≡ cond x sizes (set sizes n (length (piece_at t at))) → numbers₂ ≡ cond x numbers (set numbers n (alone_at f t at)) → Saves u firsts₂ sizes₂ numbers₂ end n₂
@@ -317,3 +316,17 @@ module _ (f : Format) (t₀ firsts₀ sizes₀ numbers₀ : List ℕ) where
               (rw p (filled_more _ firsts₀ k.first (omega (arith, size, whole, room.0)) n k.counted at loss refl))
               (rw q (filled_more _ sizes₀ k.size (omega (arith, size, whole, room.1)) n k.counted (length (piece_at t at)) loss refl))
               (rw r (filled_more _ numbers₀ k.number (omega (arith, size, whole, room.2)) n k.counted (alone_at f t at) loss refl))
+
+    module _ (room : (length (saved_of f t₀).lost ≤ length firsts₀) × (length (saved_of f t₀).lost ≤ length sizes₀) × (length (saved_of f t₀).lost ≤ length numbers₀)) (l : at < length t)
+        {next : ℕ} (e : next ≡ at + length (piece_at t at)) where
+      -- the piece stays
+      pub saves-stay : alone_at f t at ≡ 0 → Saves t firsts sizes numbers next n
+      saves-stay z =
+          rw e (saves-on room l (stays-tape f t at z) n firsts sizes numbers (omega (arith, none_lost f t at z)) (stays-list f t at z _ _) (stays-list f t at z _ _) (stays-list f t at z _ _))
+
+      -- it is overpunched and listed
+      pub saves-lose : {number : ℕ} → number ≡ alone_at f t at → 0 < number → (s : List ℕ) → s ≡ overpunched (take (next - at) (drop at t))
+          → Saves (take at t ++ (s ++ drop (next - at) (drop at t))) (set firsts n at) (set sizes n (next - at)) (set numbers n number) next (n + 1)
+      saves-lose {number} q z s w =
+          subst (λ i. Saves (take at t ++ (s ++ drop (next - at) (drop at t))) (set firsts n at) (set sizes n (next - at)) (set numbers n number) i (n + 1)) (sym e)
+          (saves-on room l (lost-tape f t at q z e s w) (n + 1) _ _ _ (omega (arith, one_lost f t at q z)) (lost-first f t at q z e firsts n) (lost-size f t at q z e sizes n) (lost-number f t at q z e numbers n))

@@ -1,17 +1,20 @@
 -- What a saving answers and leaves, by what was found on the way.
-use Prim.Native.Nat.{ℕ, ◌≤◌, ◌<◌}
-use mathlib.Core.Path.{◌≡◌, refl, sym, ap, ◌∙◌}
+use Prim.Native.Nat.{ℕ, ◌≤◌, ◌<◌, min}
+use native.Mathlib.Decide.{dec_le}
+use native.Mathlib.Omega.{arith}
+use mathlib.Core.Path.{◌≡◌, refl, sym, ◌∙◌}
 use mathlib.Core.Bool.{Bool, true, false, ◌&&◌, cond}
 use mathlib.Core.List.{List, map}
 use lib.Dec.{leb}
 use lib.ListN.{length}
-use borrow.Author.Tests.{lt-ltb, le-ltb, leb-true}
-use Rattle.rows.specs.Answer.{Answer, taken, refused, void, value_or, ◌>>◌}
+use borrow.Author.Tests.{lt-ltb, le-ltb, le-leb, lt-leb, leb-true}
+use Rattle.rows.specs.Answer.{Answer, taken, refused, void, ◌>>◌}
 use Rattle.rows.specs.Stages.{limit}
 use Rattle.shorthand.specs.declared.Format.{Format}
 use Rattle.reading.specs.Answers.{read}
 use Rattle.reading.proofs.Outcomes.{never}
 use Rattle.punching.specs.Answers.{after}
+use Rattle.index.specs.Index.{index_room}
 use Rattle.salvage.specs.Pieces.{head_of}
 use Rattle.salvage.specs.Saving.{Loss, Saved, saved_of, list_room, salvaged_for}
 use Rattle.salvage.specs.Answers.{lost_in, rows_after, listed}
@@ -24,6 +27,25 @@ void-refused (refused n q) m p e = let i : n ≡ m = cc in let j : q ≡ p = cc 
 void-taken : {A : Type 0} (a : Answer A) → taken tt ≡ void a → (x : A) × (a ≡ taken x)
 void-taken (taken x) e = (x, refl)
 void-taken (refused n q) e = never (sym e)
+
+-- room for two lists is asked by the shorter of them
+leb-min : (n a b : ℕ) → leb n (min a b) ≡ (leb n a && leb n b)
+leb-min n a b =
+    elim (dec_le n a) [
+      | yes h ↦
+          elim (dec_le n b) [
+            | yes g ↦ rw (le-leb n a h, le-leb n b g) (le-leb n (min a b) (omega arith))
+            | no g ↦ rw (le-leb n a h, lt-leb n b (omega arith)) (lt-leb n (min a b) (omega arith))
+          ]
+      | no h ↦ rw (lt-leb n a (omega arith)) (lt-leb n (min a b) (omega arith))
+    ]
+
+pub three-lists : (n a b c : ℕ) → index_room n (min a b) c ≡ list_room n a b c
+three-lists n a b c = rw (leb-min n a b) (by (leb n a))
+  where
+    by : (x : Bool) → ◌≡◌ {A = Answer (Unit {0})} (cond ((x && leb n b) && leb n c) (taken tt) (refused 24 n)) (cond (x && (leb n b && leb n c)) (taken tt) (refused 24 n))
+    by true = refl
+    by false = refl
 
 -- there is room in all three lists
 pub room-three : (n a b c : ℕ) → taken tt ≡ list_room n a b c → (n ≤ a) × (n ≤ b) × (n ≤ c)

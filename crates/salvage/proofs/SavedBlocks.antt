@@ -9,7 +9,7 @@ use lib.ListN.{length, length-append}
 use borrow.Author.Tests.{ltb-false}
 use Rattle.rows.specs.Answer.{Answer, taken, refused, value_or, void, ◌>>◌}
 use Rattle.rows.specs.Kept.{kept}
-use Rattle.rows.specs.Passes.{Every, Passes}
+use Rattle.rows.specs.Passes.{Passes}
 use Rattle.rows.specs.Stages.{limit, in_limit}
 use Rattle.rows.proofs.TapesJoined.{passes_append}
 use Rattle.shorthand.specs.declared.Format.{Format}

@@ -23,7 +23,7 @@ use Rattle.shorthand.specs.declared.Format.{Format}
 use Rattle.shorthand.specs.Facts.{Facts}
 use Rattle.reading.specs.declared.Block.{Block}
 use Rattle.reading.specs.Relation.{End, Blocks, none, more, Program, program, chars}
-use Rattle.reading.specs.Parse.{Entry}
+use Rattle.reading.specs.declared.Entry.{Entry}
 use Rattle.reading.specs.Answers.{program_at, read}
 use Rattle.reading.proofs.Accepted.{read_taken}
 use Rattle.reading.proofs.BlockParts.{Parted, over, part, whole}
@@ -31,7 +31,7 @@ use Rattle.reading.proofs.BlockWalk.{read-clean}
 use Rattle.reading.proofs.Complete.{complete}
 use Rattle.reading.proofs.Numbered.{taken-value}
 use Rattle.reading.proofs.MovedRows.{chars-behind}
-use Rattle.salvage.specs.Pieces.{is_lf, divided, first_in, others_in, head_of, pieces_of}
+use Rattle.salvage.specs.Pieces.{is_lf, divided, head_of, pieces_of}
 use Rattle.salvage.specs.Clear.{Clear, end, row, remark}
 use Rattle.salvage.specs.Saving.{Saved, piece_number, saved_piece, saved_rows, losses, saved_of, salvaged_for}
 use Rattle.salvage.proofs.Dividing.{LfLast, head-whole, parts_last}

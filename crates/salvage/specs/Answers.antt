@@ -1,13 +1,7 @@
--- What a saving hands back and leaves, and what each case of its answer says.
+-- What a saving hands back and leaves.
 use Rattle.std.specs.Prelude.{ℕ, List, map, length}
-use Rattle.rows.specs.Answer.{Answer, taken, refusal, value_or, ◌>>=◌}
-use Rattle.salvage.specs.declared.Salvaged.{Salvaged}
+use Rattle.rows.specs.Answer.{Answer, taken, value_or, ◌>>=◌}
 use Rattle.salvage.specs.Saving.{Loss, Saved}
-
--- what each case of `Salvaged` says
-abbrev pub salvaged_told : Salvaged → Answer ℕ
-salvaged_told (Salvaged.Pieces n) = taken n
-salvaged_told (Salvaged.Refused r) = refusal r
 
 -- how many pieces were overpunched
 abbrev pub lost_in : Answer Saved → Answer ℕ

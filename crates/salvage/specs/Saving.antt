@@ -54,6 +54,13 @@ unfoldable pub salvaged_for : Format → List ℕ → ℕ → ℕ → ℕ → An
 salvaged_for f t firsts sizes numbers =
     in_limit t >> (read f (head_of t) >> (list_room (length (saved_of f t).lost) firsts sizes numbers >> taken (saved_of f t)))
 
+-- the same with lists that are lent
+abbrev pub salvaged_in : Format → List ℕ → List ℕ → List ℕ → List ℕ → Answer Saved
+salvaged_in f t firsts sizes numbers = salvaged_for f t (length firsts) (length sizes) (length numbers)
+
 -- 1, 2 and 3, 22 and 23, and then the same: under an edition, a shorthand and a profile
 unfoldable pub salvaged : ℕ → List ℕ → List ℕ → List ℕ → ℕ → ℕ → ℕ → Answer Saved
 salvaged e s p t firsts sizes numbers = agreed e s p >>= λ f. salvaged_for f t firsts sizes numbers
+
+abbrev pub salvaged_lent : ℕ → List ℕ → List ℕ → List ℕ → List ℕ → List ℕ → List ℕ → Answer Saved
+salvaged_lent e s p t firsts sizes numbers = salvaged e s p t (length firsts) (length sizes) (length numbers)

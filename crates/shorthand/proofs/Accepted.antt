@@ -9,11 +9,10 @@ use lib.ListN.{length, replicate, take}
 use lib.Seq.{take-append_seam}
 use native.Mathlib.Omega.{arith}
 use borrow.Author.Tests.{eqb-true, eqb-false}
+use Rattle.std.specs.Prelude.{Some, None}
 use Rattle.rows.specs.Answer.{taken, refused}
 use Rattle.shorthand.specs.declared.Item.{Item}
 use Rattle.shorthand.specs.declared.Format.{Format}
-use Rattle.shorthand.specs.declared.Dots.{Dots}
-use Rattle.shorthand.specs.declared.Dots.TheVariants.{Open}
 use Rattle.shorthand.specs.Layout.{blank, format_of, items_of}
 use Rattle.shorthand.specs.Spell.{digit, spell_item, spell_items, spell}
 use Rattle.shorthand.specs.declared.Order.{Order}
@@ -22,8 +21,8 @@ use Rattle.shorthand.specs.declared.Edition.TheVariants.{Iso1057, Iso2539}
 use Rattle.shorthand.specs.Edition.{number_of, later}
 use Rattle.shorthand.specs.Lawful.{dots_fit, LawfulIn, Lawful}
 use Rattle.shorthand.specs.Order.{start}
-use Rattle.shorthand.specs.Stand.{dot_fits}
-use Rattle.shorthand.specs.Parse.{settle, is_dotted, parsed_in, parsed}
+use Rattle.shorthand.specs.Stand.{Dots, dot_fits}
+use Rattle.shorthand.specs.Parse.{is_dotted, parsed_in, parsed}
 use Rattle.shorthand.proofs.Tests.{fails}
 use Rattle.shorthand.proofs.Grammar.{Items, done, next, items-ordered, ordered-items}
 use Rattle.shorthand.proofs.Walking.{Steps, stay, step}
@@ -35,32 +34,28 @@ items-of u n d its = take-append_seam its (replicate (22 - length its) blank)
 
 -- ---- lawful items are steps of the walk
 
-same-dot : (e : Edition) (d : Bool) → T (dot_fits e (settle d) d)
+same-dot : (e : Edition) (d : Bool) → T (dot_fits e (Some d) d)
 same-dot e true = tt
 same-dot e false = tt
 
-settled : {e : Edition} {o : Order} {its : List Item} (d : Bool) → Items e o its → (o' : Order) × Steps e (settle d) o its (settle d) o' (spell_items d its)
+settled : {e : Edition} {o : Order} {its : List Item} (d : Bool) → Items e o its → (o' : Order) × Steps e (Some d) o its (Some d) o' (spell_items d its)
 unfolding spell_items
 settled {o = o} d done = (o, stay)
 settled {e} d (next l h) = let r = settled d h in (r.0, step d (record { dotted = same-dot e d; ready = l }) r.1)
-
-is-dotted : (d : Bool) → is_dotted (settle d) ≡ d
-is-dotted true = refl
-is-dotted false = refl
 
 -- where the items of a lawful Format lead
 record Opened (e : Edition) (d : Bool) (its : List Item) : Type 0 where
   dots : Dots
   o : Order
-  steps : Steps e Open start its dots o (spell_items d its)
+  steps : Steps e None start its dots o (spell_items d its)
   same : is_dotted dots ≡ d
 
 opened : (e : Edition) (d : Bool) {its : List Item} → T (dots_fit e d its) → Items e start its → Opened e d its
 unfolding spell_items
-opened e d h done = record { dots = Open; o = start; steps = stay; same = sym (fails d h) }
+opened e d h done = record { dots = None; o = start; steps = stay; same = sym (fails d h) }
 opened e d h (next l r) =
     let s = settled d r in
-    record { dots = settle d; o = s.0; steps = step d (record { dotted = h; ready = l }) s.1; same = is-dotted d }
+    record { dots = Some d; o = s.0; steps = step d (record { dotted = h; ready = l }) s.1; same = refl }
 
 pub complete-in : {e : Edition} {f : Format} → LawfulIn e f → parsed_in e (spell f) ≡ taken f
 unfolding spell
@@ -78,32 +73,32 @@ steps-items : {e : Edition} {dots dots' : Dots} {o o' : Order} {its : List Item}
 steps-items stay = done
 steps-items (step dot f s) = next f.ready (steps-items s)
 
-one-dot : (e : Edition) (d dot : Bool) → T (dot_fits e (settle d) dot) → dot ≡ d
+one-dot : (e : Edition) (d dot : Bool) → T (dot_fits e (Some d) dot) → dot ≡ d
 one-dot e true true h = refl
 one-dot e true false h = absurd h
 one-dot e false true h = absurd h
 one-dot e false false h = refl
 
 -- once the dots are settled they stay so
-steps-settled : {e : Edition} {dots dots' : Dots} {o o' : Order} {its : List Item} {x : List ℕ} (d : Bool) → dots ≡ settle d → Steps e dots o its dots' o' x
-    → (dots' ≡ settle d) × (x ≡ spell_items d its)
+steps-settled : {e : Edition} {dots dots' : Dots} {o o' : Order} {its : List Item} {x : List ℕ} (d : Bool) → dots ≡ Some d → Steps e dots o its dots' o' x
+    → (dots' ≡ Some d) × (x ≡ spell_items d its)
 unfolding spell_items
 steps-settled d q stay = (q, refl)
 steps-settled {e} d q (step {it = it} dot f s) =
     let same = one-dot e d dot (subst (λ (x : Dots). T (dot_fits e x dot)) q f.dotted) in
-    let r = steps-settled d (ap settle same) s in
+    let r = steps-settled d (ap Some same) s in
     (r.0, ap₂ (λ (b : Bool) (l : List ℕ). spell_item b it ++ l) same r.1)
 
 record Settled (e : Edition) (its : List Item) (dots : Dots) (x : List ℕ) : Type 0 where
   fits : T (dots_fit e (is_dotted dots) its)
   spells : x ≡ spell_items (is_dotted dots) its
 
-steps-opened : {e : Edition} {dots : Dots} {o : Order} {its : List Item} {x : List ℕ} → Steps e Open start its dots o x → Settled e its dots x
+steps-opened : {e : Edition} {dots : Dots} {o : Order} {its : List Item} {x : List ℕ} → Steps e None start its dots o x → Settled e its dots x
 unfolding spell_items
 steps-opened stay = record { fits = tt; spells = refl }
 steps-opened (step {it = it} {its = its} {x = x} dot f s) =
     let r = steps-settled dot refl s in
-    let same = ap is_dotted r.0 ∙ is-dotted dot in
+    let same = ap is_dotted r.0 in
     record { fits = rw same f.dotted; spells = subst (λ (b : Bool). spell_item dot it ++ x ≡ spell_items b (it ∷ its)) (sym same) (ap (λ (l : List ℕ). spell_item dot it ++ l) r.1) }
 
 taken-lawful : {e : Edition} {t : List ℕ} {f : Format} → Ground e t (taken f) → (t ≡ spell f) × LawfulIn e f

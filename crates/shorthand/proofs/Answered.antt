@@ -7,11 +7,10 @@ use mathlib.Core.Bool.{false}
 use mathlib.Core.List.{List, [], ◌∷◌, ◌++◌, append-nil}
 use lib.Dec.{T, eqb}
 use lib.ListN.{length, length-append}
+use Rattle.std.specs.Prelude.{None}
 use Rattle.rows.specs.Answer.{Answer, taken, refused}
 use Rattle.shorthand.specs.declared.Item.{Item}
 use Rattle.shorthand.specs.declared.Format.{Format}
-use Rattle.shorthand.specs.declared.Dots.{Dots}
-use Rattle.shorthand.specs.declared.Dots.TheVariants.{Open}
 use Rattle.shorthand.specs.Layout.{format_of}
 use Rattle.shorthand.specs.Spell.{digit, spell_kind, spell_dot, spell_item}
 use Rattle.shorthand.specs.declared.Order.{Order}
@@ -20,7 +19,7 @@ use Rattle.shorthand.specs.declared.Edition.TheVariants.{Iso2539}
 use Rattle.shorthand.specs.Edition.{sequence_most, later}
 use Rattle.shorthand.specs.Order.{start}
 use Rattle.shorthand.specs.Lawful.{digit_in}
-use Rattle.shorthand.specs.Stand.{Stand, whole, short, unfit, seen, stand, stand_n}
+use Rattle.shorthand.specs.Stand.{Dots, Stand, whole, short, unfit, seen, stand, stand_n}
 use Rattle.shorthand.specs.Parse.{beyond, is_dotted, leads, items_from, parsed_in}
 use Rattle.shorthand.specs.Mending.{apart}
 use Rattle.shorthand.proofs.Standing.{Numbers, numbers, number-reads}
@@ -32,11 +31,11 @@ pub record Front (e : Edition) (dots : Dots) (o : Order) (x : List ℕ) : Type 0
   pub sequence : T (digit_in 3 (sequence_most e) seq)
   pub its : List Item
   pub items : List ℕ
-  pub steps : Steps e Open start its dots o items
+  pub steps : Steps e None start its dots o items
   pub spelled : x ≡ 78 ∷ digit seq ∷ items
 
 abbrev pub front_of : {e : Edition} {dots : Dots} {o : Order} {its : List Item} {x : List ℕ} (seq : ℕ) → T (digit_in 3 (sequence_most e) seq)
-    → Steps e Open start its dots o x → Front e dots o (78 ∷ digit seq ∷ x)
+    → Steps e None start its dots o x → Front e dots o (78 ∷ digit seq ∷ x)
 front_of {its = its} {x = x} seq d s = record { seq = seq; sequence = d; its = its; items = x; steps = s; spelled = refl }
 
 -- ---- every answer has one of these grounds
@@ -61,7 +60,7 @@ at_end h stops (past {b} {t}) = follows b t h
 at_end h stops (lacks {b} {t} r) = item_lacks b t h r
 at_end h stops (bars {b} {t} q r) = item_bars b t h stops q r
 
-walked : {e : Edition} (seq : ℕ) {rest : List ℕ} {a : Answer Format} → T (digit_in 3 (sequence_most e) seq) → Walk e seq Open start [] 2 rest a
+walked : {e : Edition} (seq : ℕ) {rest : List ℕ} {a : Answer Format} → T (digit_in 3 (sequence_most e) seq) → Walk e seq None start [] 2 rest a
     → Ground e (78 ∷ digit seq ∷ rest) a
 walked {e} seq {a = a} d w =
     let h : Front e w.dots' w.o' (78 ∷ digit seq ∷ w.x) = front_of seq d w.steps in
@@ -74,14 +73,14 @@ unfolding parsed_in
 grounds e t = go (stand_n e t) refl (numbers e t)
   where
     items : ℕ → List ℕ → Answer Format
-    items seq rest = items_from (length t) e (at seq Open start [] (length t - length rest)) rest
+    items seq rest = items_from (length t) e (at seq None start [] (length t - length rest)) rest
 
     go : (s : Stand ℕ) → stand_n e t ≡ s → Numbers e t s → Ground e t (leads 0 t s (beyond (stand_n Iso2539 t)) items)
     go (whole seq rest) r h =
         subst (λ (l : List ℕ). Ground e l (items seq rest)) (sym h.1)
         (walked seq h.0
-        (subst (λ (p : ℕ). Walk e seq Open start [] p rest (items seq rest)) (omega (arith, ap length h.1))
-        (walks e seq (length t) Open start [] (length t - length rest) rest (omega (arith, ap length h.1)) h.2)))
+        (subst (λ (p : ℕ). Walk e seq None start [] p rest (items seq rest)) (omega (arith, ap length h.1))
+        (walks e seq (length t) None start [] (length t - length rest) rest (omega (arith, ap length h.1)) h.2)))
     go short r h = rw (zero-add (length t)) (number_lacks r)
     go unfit r h = number_bars r
 
@@ -110,7 +109,7 @@ module _ {e : Edition} {dots : Dots} {o : Order} {x : List ℕ} (h : Front e dot
         omega arith,
         ap (λ (t : List ℕ). parsed_in e (t ++ rest)) h.spelled
             ∙ rw (number-reads e h.seq (y ++ rest) h.sequence (steps_apart h.steps rest stops))
-            (ap₂ (λ (m p : ℕ). items_from m e (at h.seq Open start [] p) (y ++ rest)) (omega (arith, fuel-adds h.its (suc n))) (omega arith)
+            (ap₂ (λ (m p : ℕ). items_from m e (at h.seq None start [] p) (y ++ rest)) (omega (arith, fuel-adds h.its (suc n))) (omega arith)
             ∙ forward e h.seq h.steps (suc n) [] 2 rest stops
             ∙ ap (λ (p : ℕ). items_from (suc n) e (at h.seq dots o h.its p) rest) (omega (arith, ap length h.spelled))),
       )

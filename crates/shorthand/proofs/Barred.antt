@@ -10,16 +10,15 @@ use lib.Seq.{take-append_seam, drop-append_seam}
 use Rattle.rows.specs.Answer.{Answer, taken, refused}
 use Rattle.shorthand.specs.declared.Item.{Item}
 use Rattle.shorthand.specs.declared.Format.{Format}
-use Rattle.shorthand.specs.declared.Dots.{Dots}
 use Rattle.shorthand.specs.Spell.{spell_item}
 use Rattle.shorthand.specs.declared.Order.{Order}
 use Rattle.shorthand.specs.declared.Edition.{Edition}
 use Rattle.shorthand.specs.declared.Edition.TheVariants.{Iso2539}
-use Rattle.shorthand.specs.Stand.{Stand, whole, unfit, seen, stand}
+use Rattle.shorthand.specs.Stand.{Dots, Stand, whole, unfit, seen, stand}
 use Rattle.shorthand.specs.Parse.{beyond, items_from, parsed_in}
 use Rattle.shorthand.specs.Mending.{apart, Mends}
 use Rattle.shorthand.proofs.Standing.{Stands, stands, stand-reads}
-use Rattle.shorthand.proofs.Walking.{at, Steps, stay, step, steps_apart, End, star, past, Walk, walks}
+use Rattle.shorthand.proofs.Walking.{at, Steps, stay, step, steps_apart, End, star, Walk, walks}
 use Rattle.shorthand.proofs.Answered.{Front, resumed}
 use Rattle.shorthand.proofs.Accepted.{mends-accepted}
 

@@ -4,13 +4,12 @@ use mathlib.Core.Path.{◌≡◌, refl, sym, ap, subst}
 use mathlib.Core.Bool.{Bool, true, ◌&&◌, not}
 use mathlib.Core.List.{List, [], ◌∷◌, ◌++◌, map, append_assoc, append-nil}
 use lib.Dec.{T, eqb, eqb_refl}
+use Rattle.std.specs.Prelude.{Some, None}
 use Rattle.shorthand.specs.declared.Missing.{Missing}
 use Rattle.shorthand.specs.declared.Missing.TheVariants.{Nothing, Leading, Trailing}
 use Rattle.shorthand.specs.declared.Kind.{Kind}
 use Rattle.shorthand.specs.declared.Kind.TheVariants.{Plain, Speed, Dimension}
 use Rattle.shorthand.specs.declared.Item.{Item}
-use Rattle.shorthand.specs.declared.Dots.{Dots}
-use Rattle.shorthand.specs.declared.Dots.TheVariants.{Open, Dotted, Plainly}
 use Rattle.shorthand.specs.declared.Order.{Order}
 use Rattle.shorthand.specs.declared.Edition.{Edition}
 use Rattle.shorthand.specs.declared.Edition.TheVariants.{Iso2539}
@@ -18,8 +17,7 @@ use Rattle.shorthand.specs.Spell.{spell_kind, spell_dot, spell_item}
 use Rattle.shorthand.specs.Edition.{later, sequence_most}
 use Rattle.shorthand.specs.Lawful.{plain_kind, speed_kind, figures_fit, dimension_kind}
 use Rattle.shorthand.specs.Order.{due, after}
-use Rattle.shorthand.specs.Stand.{figured, dot_fits}
-use Rattle.shorthand.specs.Parse.{settle}
+use Rattle.shorthand.specs.Stand.{Dots, figured, dot_fits}
 use Rattle.shorthand.proofs.Tests.{both, first, second}
 use Rattle.shorthand.proofs.DigitRuns.{within, inside, speed-wider}
 use Rattle.shorthand.proofs.MadeKinds.{figured-says, dimensioned-of}
@@ -31,16 +29,16 @@ use Rattle.shorthand.proofs.Answered.{Front}
 -- ---- one more item
 
 steps-more : {e : Edition} {dots dots' : Dots} {o o' : Order} {its : List Item} {x : List ℕ} (dot : Bool) (it : Item)
-    → Steps e dots o its dots' o' x → Fit e dots' o' dot it → Steps e dots o (its ++ (it ∷ [])) (settle dot) (after o' it) (x ++ spell_item dot it)
+    → Steps e dots o its dots' o' x → Fit e dots' o' dot it → Steps e dots o (its ++ (it ∷ [])) (Some dot) (after o' it) (x ++ spell_item dot it)
 steps-more {e} {dots} {o = o} dot it stay f =
-    subst (λ (l : List ℕ). Steps e dots o (it ∷ []) (settle dot) (after o it) l) (append-nil (spell_item dot it)) (step dot f stay)
+    subst (λ (l : List ℕ). Steps e dots o (it ∷ []) (Some dot) (after o it) l) (append-nil (spell_item dot it)) (step dot f stay)
 steps-more {e} {dots} {o = o} {o' = o'} dot it (step {it = it'} {its = its} {x = x} dot' f' s) f =
-    subst (λ (l : List ℕ). Steps e dots o (it' ∷ (its ++ (it ∷ []))) (settle dot) (after o' it) l)
+    subst (λ (l : List ℕ). Steps e dots o (it' ∷ (its ++ (it ∷ []))) (Some dot) (after o' it) l)
     (sym (append_assoc (spell_item dot' it') x (spell_item dot it)))
     (step dot' f' (steps-more dot it s f))
 
 pub front-more : {e : Edition} {dots : Dots} {o : Order} {x : List ℕ} (dot : Bool) (it : Item) → Front e dots o x → Fit e dots o dot it
-    → Front e (settle dot) (after o it) (x ++ spell_item dot it)
+    → Front e (Some dot) (after o it) (x ++ spell_item dot it)
 front-more dot it h f =
     record {
       seq = h.seq;
@@ -89,9 +87,8 @@ speed-widens e c (Speed n) h = speed-wider e c n h
 speed-widens e c (Dimension d) h = h
 
 dots-widen : (e : Edition) (dots : Dots) (dot : Bool) → T (dot_fits e dots dot) → T (dot_fits Iso2539 dots dot)
-dots-widen e Open dot h = tt
-dots-widen e Dotted dot h = h
-dots-widen e Plainly dot h = h
+dots-widen e None dot h = tt
+dots-widen e (Some settled) dot h = h
 
 abbrev wide : Item → Item
 wide it = record { letter = it.letter; kind = widened it.kind }
@@ -135,7 +132,7 @@ steps-wider : {e : Edition} {dots dots' : Dots} {o o' : Order} {its : List Item}
 steps-wider stay = stay
 steps-wider {dots = dots} {dots'} {o} {o'} (step {it = it} {its = its} {x = x} dot f s) =
     subst (λ (k : List ℕ). Steps Iso2539 dots o (map wide (it ∷ its)) dots' o' (spell_dot dot ++ (it.letter ∷ k) ++ x)) (widened-spells it.kind)
-    (step dot (fit-wider f) (subst (λ (r : Order). Steps Iso2539 (settle dot) r (map wide its) dots' o' x) (sym (after-wider o it.letter it.kind)) (steps-wider s)))
+    (step dot (fit-wider f) (subst (λ (r : Order). Steps Iso2539 (Some dot) r (map wide its) dots' o' x) (sym (after-wider o it.letter it.kind)) (steps-wider s)))
 
 pub front-wider : {e : Edition} {dots : Dots} {o : Order} {x : List ℕ} → Front e dots o x → Front Iso2539 dots o x
 front-wider {e} h =

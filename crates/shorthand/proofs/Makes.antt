@@ -1,32 +1,23 @@
 -- What digits make: it goes by the first three and by there being more, and by the letter.
 use Prim.Native.Nat.{ℕ}
-use mathlib.Core.Path.{◌≡◌, refl, ◌∙◌}
-use mathlib.Core.Logic.{◌⊎◌, inl, inr, ⊎_elim}
-use mathlib.Core.Bool.{Bool, true, false, ◌&&◌, ◌||◌, cond, and-false}
+use mathlib.Core.Path.{◌≡◌, refl}
+use mathlib.Core.Logic.{◌⊎◌, inl, inr}
+use mathlib.Core.Bool.{Bool, true, false, ◌&&◌, ◌||◌, cond}
 use mathlib.Core.List.{List, [], ◌∷◌}
-use native.Mathlib.Omega.{arith}
 use lib.Dec.{eqb}
 use borrow.Author.Tests.{ne_eqb}
-use types.Run.{OneOf}
-use denote.Enum.Declared.{tag_of}
-use Rattle.shorthand.specs.contracts.Digits as digits
-use Rattle.shorthand.specs.contracts.Mark as mark
-use Rattle.shorthand.specs.contracts.Making as making
-use Rattle.shorthand.specs.contracts.Kind as kind
 use Rattle.shorthand.specs.declared.Edition.{Edition}
 use Rattle.shorthand.specs.declared.Order.{Order}
 use Rattle.shorthand.specs.declared.Kind.{Kind}
-use Rattle.shorthand.specs.declared.Kind.TheVariants.{Plain, Speed, Dimension}
-use Rattle.shorthand.specs.declared.Making.{Making}
+use Rattle.shorthand.specs.declared.Kind.TheVariants.{Speed}
 use Rattle.shorthand.specs.declared.Mark.{Mark}
 use Rattle.shorthand.specs.declared.Mark.TheVariants.{Unmarked, Plus, Delta}
-use Rattle.shorthand.specs.declared.Digits.{Digits}
-use Rattle.shorthand.specs.declared.Digits.TheVariants.{Empty, One, Two, Three, Many}
-use Rattle.shorthand.specs.Edition.{later, speed_least, allowed, any_of}
-use Rattle.shorthand.specs.Lawful.{digit_in, axes}
-use Rattle.shorthand.specs.Order.{due_as_feed, due_as_dimension, due_in_turn, is_speed, is_axis}
-use Rattle.shorthand.specs.Stand.{Pieces, Made, made, more, wrong, one_digit, two_digits, dimensioned, unmarked, either, as_dimension, speed_made, turn_made, in_turn, kind_made}
-use Rattle.shorthand.specs.Places.{digits_in, added_all, making as made_by}
+use Rattle.shorthand.specs.declared.Digits.TheVariants.{Empty, Many}
+use Rattle.shorthand.specs.Edition.{speed_least, allowed}
+use Rattle.shorthand.specs.Lawful.{digit_in}
+use Rattle.shorthand.specs.Order.{due_as_feed, due_as_dimension, due_in_turn}
+use Rattle.shorthand.specs.Stand.{Pieces, Made, made, more, wrong, one_digit, dimensioned, unmarked, either, as_dimension, turn_made, in_turn, kind_made}
+use Rattle.shorthand.specs.Places.{digits_in, added_all}
 
 -- ---- the first three digits are enough
 
@@ -54,27 +45,6 @@ kind_of e o c m ds = kind_made e o (record { letter = c; mark = m; digits = ds; 
 pub kind-enough : (e : Edition) (o : Order) (c : ℕ) (m : Mark) (ds : List ℕ) → kind_of e o c m (digits_in (added_all Empty ds)) ≡ kind_of e o c m ds
 kind-enough e o c m = enough (kind_of e o c m) (λ x y z w ds. refl)
 
--- ---- an item with one digit
-
--- two digits or more make nothing
-pub several-wrong : {A : Type 0} (lo hi : ℕ) (k : ℕ → A) (ds : Digits) → OneOf (2 ∷ 3 ∷ 4 ∷ []) (tag_of digits.the_type ds) → one_digit lo hi k (digits_in ds) ≡ wrong
-several-wrong lo hi k Empty h = absurd (⊎_elim (λ e. omega arith) (λ r. ⊎_elim (λ e. omega arith) (λ e. omega arith) r) h)
-several-wrong lo hi k (One d) h = absurd (⊎_elim (λ e. omega arith) (λ r. ⊎_elim (λ e. omega arith) (λ e. omega arith) r) h)
-several-wrong lo hi k (Two a b) h = refl
-several-wrong lo hi k (Three a b c) h = refl
-several-wrong lo hi k Many h = refl
-
--- nor does any with a mark
-pub marked-wrong : {A : Type 0} (m : Mark) (x : Made A) → OneOf (1 ∷ 2 ∷ []) (tag_of mark.the_type m) → unmarked m x ≡ wrong
-marked-wrong Unmarked x h = absurd (⊎_elim (λ e. omega arith) (λ e. omega arith) h)
-marked-wrong Plus x h = refl
-marked-wrong Delta x h = refl
-
--- ---- `00`
-
-pub no-figures : (e : Edition) (m : Mark) (a b : ℕ) → a ≡ 0 → eqb b 0 ≡ true → two_digits e m a b ≡ cond (later e) more wrong
-no-figures e m a b p q = rw (p, q)
-
 -- ---- by the letter
 
 either-wrong : {A : Type 0} (x : Made A) → either x wrong ≡ x
@@ -87,13 +57,6 @@ abbrev pub unless : {A : Type 0} → Made A → Made A → Made A
 unless (made a) y = made a
 unless more y = more
 unless wrong y = y
-
-pub unless-right : (e : Edition) (m : Mark) (x : Making) (y : Made Kind) → OneOf (0 ∷ 1 ∷ 2 ∷ 3 ∷ []) (tag_of making.the_type x) → made_by e m x ≡ unless (made_by e m x) y
-unless-right e m (Making.Plain d) y h = refl
-unless-right e m (Making.Speed d) y h = refl
-unless-right e m (Making.Dimension z a b) y h = refl
-unless-right e m Making.More y h = refl
-unless-right e m Making.Wrong y h = absurd (⊎_elim (λ t. omega arith) (λ r. ⊎_elim (λ t. omega arith) (λ s. ⊎_elim (λ t. omega arith) (λ t. omega arith) s) r) h)
 
 abbrev feed : ℕ → Bool → Mark → List ℕ → Made Kind
 feed lo due m ds = cond due (unmarked m (one_digit lo 5 Speed ds)) wrong
@@ -122,10 +85,6 @@ no-turn e o p h = rw h (go (due_in_turn o p.letter) p.mark)
     go false m = refl
 
 module _ (e : Edition) (o : Order) (p : Pieces) where
-  -- a letter that is neither a feed's nor a dimension's
-  pub kind-in-turn : eqb p.letter 70 || eqb p.letter 69 || eqb p.letter 68 ≡ false → any_of (λ d. eqb d p.letter) axes ≡ false → kind_made e o p ≡ in_turn e o p
-  kind-in-turn f a = rw (f, a, and-false)
-
   -- F, E or D
   pub kind-feed : eqb p.letter 70 || eqb p.letter 69 || eqb p.letter 68 ≡ true → turn_made e p.letter p.digits ≡ wrong
       → kind_made e o p ≡ unless (feed (speed_least e p.letter) (due_as_feed o p.letter) p.mark p.digits) (as_dimension e o p)
@@ -135,29 +94,5 @@ module _ (e : Edition) (o : Order) (p : Pieces) where
   pub kind-dimension : eqb p.letter 70 || eqb p.letter 69 || eqb p.letter 68 ≡ false → turn_made e p.letter p.digits ≡ wrong → kind_made e o p ≡ as_dimension e o p
   kind-dimension f t = rw (f, no-turn e o p t, either-wrong)
 
-  abbrev turning : Made Kind → Made Kind
-  turning x = cond (due_in_turn o p.letter) (unmarked p.mark x) wrong
-
-  pub kind-two : (p.letter ≡ 71) ⊎ (p.letter ≡ 77) → kind_made e o p ≡ turning (one_digit 2 2 Plain p.digits)
-  kind-two h = ⊎_elim (λ l. kind-in-turn (rw l) (rw l) ∙ rw l) (λ l. kind-in-turn (rw l) (rw l) ∙ rw l) h
-
-  pub kind-tool : p.letter ≡ 84 → kind_made e o p ≡ turning (one_digit 1 9 Plain p.digits)
-  kind-tool l = kind-in-turn (rw l) (rw l) ∙ rw l
-
-  pub kind-speed : p.letter ≡ 83 → kind_made e o p ≡ turning (speed_made e p.letter p.digits)
-  kind-speed l = kind-in-turn (rw l) (rw l) ∙ rw l
-
 pub turn-none : (e : Edition) {c : ℕ} (ds : List ℕ) → ((c ≡ 71) ⊎ (c ≡ 77) → ⊥) → (c ≡ 84 → ⊥) → (c ≡ 83 → ⊥) → turn_made e c ds ≡ wrong
 turn-none e {c} ds p q r = rw (ne_eqb c 71 (λ h. p (inl h)), ne_eqb c 77 (λ h. p (inr h)), ne_eqb c 84 q, ne_eqb c 83 r)
-
--- ---- what an item's kind says
-
-pub no-speed : (k : Kind) → OneOf (0 ∷ 2 ∷ []) (tag_of kind.the_type k) → is_speed k ≡ false
-no-speed (Plain n) h = refl
-no-speed (Speed n) h = absurd (⊎_elim (λ e. omega arith) (λ e. omega arith) h)
-no-speed (Dimension d) h = refl
-
-pub no-axis : (k : Kind) → OneOf (0 ∷ 1 ∷ []) (tag_of kind.the_type k) → is_axis k ≡ false
-no-axis (Plain n) h = refl
-no-axis (Speed n) h = refl
-no-axis (Dimension d) h = absurd (⊎_elim (λ e. omega arith) (λ e. omega arith) h)

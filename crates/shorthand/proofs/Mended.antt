@@ -12,12 +12,11 @@ use lib.Seq.{take-append_seam, drop-append_seam, take-append-add, length-take-le
 use Rattle.rows.specs.Answer.{Answer, taken, refused}
 use Rattle.shorthand.specs.declared.Format.{Format}
 use Rattle.shorthand.specs.declared.Item.{Item}
-use Rattle.shorthand.specs.declared.Dots.{Dots}
 use Rattle.shorthand.specs.declared.Order.{Order}
 use Rattle.shorthand.specs.declared.Edition.{Edition}
 use Rattle.shorthand.specs.declared.Edition.TheVariants.{Iso2539}
 use Rattle.shorthand.specs.Spell.{digit, spell_kind, spell_dot, spell_item, starts}
-use Rattle.shorthand.specs.Stand.{Stand, whole, short, unfit, seen, stand, stand_n}
+use Rattle.shorthand.specs.Stand.{Dots, Stand, whole, short, unfit, seen, stand, stand_n}
 use Rattle.shorthand.specs.Parse.{beyond, items_from, parsed_in, parsed}
 use Rattle.shorthand.specs.Mending.{apart, Spelt, Mends, Begins, first, later, Misspelt, out_of_form, beyond_edition, behind_star, lacking, Spelling, unknown, known}
 use Rattle.shorthand.proofs.Tests.{fails}

@@ -1,6 +1,6 @@
 -- Runs of digits at a place of the text: what a walk over them has at each step.
 use Prim.Native.Nat.{ℕ, ◌+◌, ◌-◌, ◌≤◌, ◌<◌, max}
-use mathlib.Core.Path.{◌≡◌, refl, sym, ◌∙◌}
+use mathlib.Core.Path.{◌≡◌, sym, ◌∙◌}
 use mathlib.Core.Bool.{true, false, and-eq-true_iff}
 use mathlib.Core.List.{List, [], ◌∷◌}
 use native.Mathlib.Numerals.{add-one}
@@ -31,9 +31,6 @@ pub record Running (t : List ℕ) (at : ℕ) (ds : Digits) (i : ℕ) : Type 0 wh
   pub after : after_digits (drop i t) ≡ after_digits (drop at t)
   pub behind : at ≤ i
   pub within : i ≤ max at (length t)
-
-pub run-starts : (t : List ℕ) (at : ℕ) → Running t at Empty at
-run-starts t at = record { digits = refl; after = refl; behind = omega arith; within = omega arith }
 
 module _ {t : List ℕ} {at i : ℕ} {ds : Digits} (r : Running t at ds i) where
   pub run-goes-on : i < length t → is_digit (get_or t i 0) ≡ true → Running t at (added ds (get_or t i 0 - 48)) (i + 1)

@@ -13,12 +13,11 @@ use Rattle.shorthand.specs.declared.Kind.TheVariants.{Plain}
 use Rattle.shorthand.specs.declared.Item.{Item}
 use Rattle.shorthand.specs.declared.Order.{Order}
 use Rattle.shorthand.specs.declared.Edition.{Edition}
-use Rattle.shorthand.specs.declared.Dots.{Dots}
 use Rattle.shorthand.specs.Spell.{digit, spell_mark, spell_kind, spell_dot, spell_item, starts}
 use Rattle.shorthand.specs.Edition.{letters, later, sequence_most}
 use Rattle.shorthand.specs.Lawful.{digit_in}
 use Rattle.shorthand.specs.Order.{any_due, due}
-use Rattle.shorthand.specs.Stand.{digits_of, after_digits, mark_of, after_mark, pieces, Made, made, more, wrong, one_digit, Stand, whole, short, unfit, closed, lettered, item, behind_dot, seen, dot_of, named, dot_fits, stand, stand_n}
+use Rattle.shorthand.specs.Stand.{Dots, digits_of, after_digits, mark_of, after_mark, pieces, Made, made, more, wrong, one_digit, Stand, whole, short, unfit, closed, lettered, behind_dot, seen, dot_of, named, dot_fits, stand, stand_n}
 use Rattle.shorthand.specs.Mending.{apart}
 use Rattle.shorthand.proofs.Tests.{holds, fails, by-test}
 use Rattle.shorthand.proofs.DigitRuns.{within}

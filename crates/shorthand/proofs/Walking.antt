@@ -8,10 +8,10 @@ use mathlib.Core.List.{List, [], ◌∷◌, ◌++◌, append_assoc, append-nil}
 use lib.Dec.{T, eqb, eqb→eq}
 use lib.ListN.{length, length-append}
 use lib.Seq.{append_snoc}
+use Rattle.std.specs.Prelude.{Some}
 use Rattle.rows.specs.Answer.{Answer, taken, refused}
 use Rattle.shorthand.specs.declared.Item.{Item}
 use Rattle.shorthand.specs.declared.Format.{Format}
-use Rattle.shorthand.specs.declared.Dots.{Dots}
 use Rattle.shorthand.specs.Edition.{later}
 use Rattle.shorthand.specs.Layout.{format_of}
 use Rattle.shorthand.specs.Spell.{spell_kind, spell_dot, spell_item, is_digit}
@@ -19,8 +19,8 @@ use Rattle.shorthand.specs.declared.Order.{Order}
 use Rattle.shorthand.specs.declared.Edition.{Edition}
 use Rattle.shorthand.specs.declared.Edition.TheVariants.{Iso2539}
 use Rattle.shorthand.specs.Order.{after}
-use Rattle.shorthand.specs.Stand.{Stand, whole, short, unfit, seen, stand}
-use Rattle.shorthand.specs.Parse.{beyond, settle, is_dotted, Here, after_star, leads, items_from}
+use Rattle.shorthand.specs.Stand.{Dots, Stand, whole, short, unfit, seen, stand}
+use Rattle.shorthand.specs.Parse.{beyond, is_dotted, Here, after_star, leads, items_from}
 use Rattle.shorthand.specs.Mending.{apart}
 use Rattle.shorthand.proofs.Tests.{fails}
 use Rattle.shorthand.proofs.Standing.{letter-is, Fit, Stands, stands, stand-reads}
@@ -33,7 +33,7 @@ at seq dots o its p = record { sequence = seq; dots = dots; order = o; items = i
 pub data Steps (e : Edition) : Dots → Order → List Item → Dots → Order → List ℕ → Type 0 where
   stay : {dots : Dots} {o : Order} → Steps e dots o [] dots o []
   step : {dots dots' : Dots} {o o' : Order} {it : Item} {its : List Item} {x : List ℕ} (dot : Bool) → Fit e dots o dot it
-      → Steps e (settle dot) (after o it) its dots' o' x → Steps e dots o (it ∷ its) dots' o' (spell_item dot it ++ x)
+      → Steps e (Some dot) (after o it) its dots' o' x → Steps e dots o (it ∷ its) dots' o' (spell_item dot it ++ x)
 
 pub steps_apart : {e : Edition} {dots dots' : Dots} {o o' : Order} {its : List Item} {x : List ℕ} → Steps e dots o its dots' o' x
     → (rest : List ℕ) → T (apart rest) → T (apart (x ++ rest))
@@ -55,22 +55,22 @@ module _ (e : Edition) (seq : ℕ) where
   item-step : (n : ℕ) (dots : Dots) (o : Order) (before : List Item) (p b : ℕ) (t : List ℕ) (it : Item) (rest : List ℕ)
       → eqb b 42 ≡ false → stand e dots o (seen (b ∷ t)) ≡ whole it rest
       → items_from (suc n) e (at seq dots o before p) (b ∷ t)
-      ≡ items_from n e (at seq (settle (eqb b 46)) (after o it) (before ++ (it ∷ [])) (p + (length (b ∷ t) - length rest))) rest
+      ≡ items_from n e (at seq (Some (eqb b 46)) (after o it) (before ++ (it ∷ [])) (p + (length (b ∷ t) - length rest))) rest
   unfolding items_from
   item-step n dots o before p b t it rest q s = rw (q, s)
 
   forward-one : (n : ℕ) (dots : Dots) (o : Order) (before : List Item) (p : ℕ) (dot : Bool) (it : Item) (rest : List ℕ)
       → Fit e dots o dot it → T (apart rest)
       → items_from (suc n) e (at seq dots o before p) (spell_item dot it ++ rest)
-      ≡ items_from n e (at seq (settle dot) (after o it) (before ++ (it ∷ [])) (p + length (spell_item dot it))) rest
+      ≡ items_from n e (at seq (Some dot) (after o it) (before ++ (it ∷ [])) (p + length (spell_item dot it))) rest
   forward-one n dots o before p true it rest f stops =
       item-step n dots o before p 46 (it.letter ∷ (spell_kind it.kind ++ rest)) it rest refl (stand-reads e dots o true it rest f stops)
-      ∙ ap (λ (m : ℕ). items_from n e (at seq (settle true) (after o it) (before ++ (it ∷ [])) (p + m)) rest) (passed (spell_item true it) rest)
+      ∙ ap (λ (m : ℕ). items_from n e (at seq (Some true) (after o it) (before ++ (it ∷ [])) (p + m)) rest) (passed (spell_item true it) rest)
   forward-one n dots o before p false it rest f stops =
       item-step n dots o before p it.letter (spell_kind it.kind ++ rest) it rest
       (fails (eqb it.letter 42) (letter-is e o it f.ready (λ c. not (eqb c 42)) tt))
       (stand-reads e dots o false it rest f stops)
-      ∙ ap₂ (λ (d : Bool) (m : ℕ). items_from n e (at seq (settle d) (after o it) (before ++ (it ∷ [])) (p + m)) rest)
+      ∙ ap₂ (λ (d : Bool) (m : ℕ). items_from n e (at seq (Some d) (after o it) (before ++ (it ∷ [])) (p + m)) rest)
       (fails (eqb it.letter 46) (letter-is e o it f.ready (λ c. not (eqb c 46)) tt))
       (passed (spell_item false it) rest)
 
@@ -114,7 +114,7 @@ module _ (e : Edition) (seq : ℕ) where
 
   one_more : {dots : Dots} {o : Order} {before : List Item} {p : ℕ} {t rest : List ℕ} {a : Answer Format} (dot : Bool) (it : Item)
       → Fit e dots o dot it → t ≡ spell_item dot it ++ rest
-      → Walk e seq (settle dot) (after o it) (before ++ (it ∷ [])) (p + (length t - length rest)) rest a → Walk e seq dots o before p t a
+      → Walk e seq (Some dot) (after o it) (before ++ (it ∷ [])) (p + (length t - length rest)) rest a → Walk e seq dots o before p t a
   one_more {dots} {o} {before} {p} {t} {rest} {a} dot it f q w =
       record {
         its = it ∷ w.its;
@@ -142,14 +142,14 @@ module _ (e : Edition) (seq : ℕ) where
       → Walk e seq dots o before p (b ∷ t)
       (cond x (after_star e (at seq dots o before p) t)
       (leads p (b ∷ t) s (beyond (stand Iso2539 dots o (seen (b ∷ t))))
-      (λ it rest. items_from n e (at seq (settle (eqb b 46)) (after o it) (before ++ (it ∷ [])) (p + (length (b ∷ t) - length rest))) rest)))
+      (λ it rest. items_from n e (at seq (Some (eqb b 46)) (after o it) (before ++ (it ∷ [])) (p + (length (b ∷ t) - length rest))) rest)))
   walk-on n rec dots o before p b [] le h true q s r k =
       subst (λ (c : ℕ). Walk e seq dots o before p (c ∷ []) (taken (format_of (later e) seq (is_dotted dots) before))) (sym (eqb→eq b 42 (rw q tt))) (at_once tt star)
   walk-on n rec dots o before p b (c ∷ t) le h true q s r k =
       subst (λ (d : ℕ). Walk e seq dots o before p (d ∷ (c ∷ t)) (refused 2 (p + 1))) (sym (eqb→eq b 42 (rw q tt))) (at_once tt past)
   walk-on n rec dots o before p b t le h false q (whole it rest) r k =
       one_more (eqb b 46) it k.0 k.1
-      (rec (settle (eqb b 46)) (after o it) (before ++ (it ∷ [])) (p + (length (b ∷ t) - length rest)) rest
+      (rec (Some (eqb b 46)) (after o it) (before ++ (it ∷ [])) (p + (length (b ∷ t) - length rest)) rest
       (omega (arith, ap length k.1, length-append (spell_item (eqb b 46) it) rest, length-append (spell_dot (eqb b 46)) (it.letter ∷ spell_kind it.kind)))
       k.2)
   walk-on n rec dots o before p b t le h false q short r k = at_once h (lacks r)

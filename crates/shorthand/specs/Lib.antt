@@ -7,5 +7,6 @@ pub mod Order
 pub mod Stand
 pub mod Parse
 pub mod Facts
+pub mod OneFacts
 pub mod Mending
 pub mod Places

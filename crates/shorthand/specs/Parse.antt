@@ -1,18 +1,16 @@
 -- The answer: the Format of a shorthand under an edition, or refusal 1, 2 or 3 with its place (document 01, "The shorthand").
-use Rattle.std.specs.Prelude.{ℕ, zero, suc, ◌+◌, ◌-◌, Bool, true, false, cond, List, [], ◌∷◌, ◌++◌, length, eqb}
-use Rattle.rows.specs.Answer.{Answer, taken, refused}
+use Rattle.std.specs.Prelude.{ℕ, zero, suc, ◌+◌, ◌-◌, Bool, false, cond, List, [], ◌∷◌, ◌++◌, length, eqb, Some, None}
+use Rattle.rows.specs.Answer.{Answer, taken, refused, ◌>>=◌}
 use Rattle.shorthand.specs.declared.Item.{Item}
 use Rattle.shorthand.specs.declared.Format.{Format}
 use Rattle.shorthand.specs.declared.Order.{Order}
 use Rattle.shorthand.specs.declared.Edition.{Edition}
 use Rattle.shorthand.specs.declared.Edition.TheVariants.{Iso1057, Iso2539}
-use Rattle.shorthand.specs.declared.Dots.{Dots}
-use Rattle.shorthand.specs.declared.Dots.TheVariants.{Open, Dotted, Plainly}
 use Rattle.shorthand.specs.Layout.{format_of}
 use Rattle.shorthand.specs.Edition.{number_of, later}
 use Rattle.shorthand.specs.Order.{start, after}
 use Rattle.shorthand.specs.Spell.{starts}
-use Rattle.shorthand.specs.Stand.{Stand, whole, short, unfit, seen, stand, stand_n}
+use Rattle.shorthand.specs.Stand.{Dots, Stand, whole, short, unfit, seen, stand, stand_n}
 
 -- an item past mending is 2 where further bytes couldn't bring it into form, else 3: 2539 holds whatever is in form at all
 abbrev pub beyond : {A : Type 0} → Stand A → ℕ
@@ -20,14 +18,9 @@ beyond (whole a rest) = 3
 beyond short = 3
 beyond unfit = 2
 
-abbrev pub settle : Bool → Dots
-settle true = Dotted
-settle false = Plainly
-
 abbrev pub is_dotted : Dots → Bool
-is_dotted Open = false
-is_dotted Dotted = true
-is_dotted Plainly = false
+is_dotted None = false
+is_dotted (Some dot) = dot
 
 -- where the walk over the items stands: N's digits, the dots, what may still come, the items so far, and the place
 pub record Here : Type 0 where
@@ -39,7 +32,7 @@ pub record Here : Type 0 where
 
 -- behind one item more, which began with a dot or not and had so many bytes
 abbrev pub onward : Here → Bool → Item → ℕ → Here
-onward h dot it n = record { sequence = h.sequence; dots = settle dot; order = after h.order it; items = h.items ++ (it ∷ []); place = h.place + n }
+onward h dot it n = record { sequence = h.sequence; dots = Some dot; order = after h.order it; items = h.items ++ (it ∷ []); place = h.place + n }
 
 -- after "*" nothing stands
 abbrev pub after_star : Edition → Here → List ℕ → Answer Format
@@ -68,12 +61,16 @@ items_from (suc n) e h t =
 
 -- behind N
 abbrev pub opening : ℕ → ℕ → Here
-opening seq p = record { sequence = seq; dots = Open; order = start; items = []; place = p }
+opening seq p = record { sequence = seq; dots = None; order = start; items = []; place = p }
 
 -- 2 or 3 by an edition
 unfoldable pub parsed_in : Edition → List ℕ → Answer Format
 parsed_in e t = leads 0 t (stand_n e t) (beyond (stand_n Iso2539 t)) (λ seq rest. items_from (length t) e (opening seq (length t - length rest)) rest)
 
--- 1 where the edition is neither 1057 nor 2539; then 2 or 3
+-- the edition that has a number; 1 where it is neither 1057 nor 2539
+abbrev pub edition_by : ℕ → Answer Edition
+edition_by n = cond (eqb n (number_of Iso1057)) (taken Iso1057) (cond (eqb n (number_of Iso2539)) (taken Iso2539) (refused 1 0))
+
+-- 1, and then 2 or 3
 unfoldable pub parsed : ℕ → List ℕ → Answer Format
-parsed n t = cond (eqb n (number_of Iso1057)) (parsed_in Iso1057 t) (cond (eqb n (number_of Iso2539)) (parsed_in Iso2539 t) (refused 1 0))
+parsed n t = edition_by n >>= λ e. parsed_in e t

@@ -1,26 +1,23 @@
 -- What the answers of the code's private functions say: a place of the text stands for the text from there on.
-use Rattle.std.specs.Prelude.{ℕ, ◌+◌, ◌≤◌, ◌<◌, max, ◌≡◌, Bool, true, false, cond, List, [], ◌∷◌, length, drop, set}
-use Rattle.rows.specs.Answer.{Answer, taken, refused, told, void, value_or}
-use Rattle.shorthand.specs.declared.Mark.{Mark}
+use Rattle.std.specs.Prelude.{ℕ, ◌+◌, ◌≤◌, ◌<◌, max, ◌≡◌, Bool, List, [], ◌∷◌, length, drop, set, Option, Some, None, Result, Ok, Err}
+use Rattle.rows.specs.Answer.{Answer, taken, refused, refusal}
+use Rattle.rows.specs.declared.refusals.Refusal.{Refusal}
 use Rattle.shorthand.specs.declared.Kind.{Kind}
-use Rattle.shorthand.specs.declared.Kind.TheVariants.{Plain, Speed}
 use Rattle.shorthand.specs.declared.Item.{Item}
 use Rattle.shorthand.specs.declared.Format.{Format}
-use Rattle.shorthand.specs.declared.Parsed.{Parsed}
 use Rattle.shorthand.specs.declared.Digits.{Digits}
 use Rattle.shorthand.specs.declared.Digits.TheVariants.{Empty, One, Two, Three, Many}
-use Rattle.shorthand.specs.declared.Making.{Making}
 use Rattle.shorthand.specs.declared.Order.{Order}
 use Rattle.shorthand.specs.declared.Edition.{Edition}
 use Rattle.shorthand.specs.declared.Edition.TheVariants.{Iso2539}
-use Rattle.shorthand.specs.declared.Dots.{Dots}
+use Rattle.shorthand.specs.declared.Draft.{Draft}
+use Rattle.shorthand.specs.declared.Read.{Read}
 use Rattle.shorthand.specs.declared.Seen.{Seen}
-use Rattle.shorthand.specs.declared.Found.{Found}
-use Rattle.shorthand.specs.declared.Sequence.{Sequence}
-use Rattle.shorthand.specs.Layout.{empty_format}
+use Rattle.shorthand.specs.declared.Unmade.{Unmade}
+use Rattle.shorthand.specs.declared.Unmade.TheVariants.{Short, Unfit}
 use Rattle.shorthand.specs.Stand as stands
 use Rattle.shorthand.specs.Spell.{starts}
-use Rattle.shorthand.specs.Stand.{Made, made, more, wrong, figured, Stand, whole, short, unfit, closed, nothing, item, seen, stand, stand_n}
+use Rattle.shorthand.specs.Stand.{Made, made, more, wrong, Dots, Stand, whole, short, unfit, nothing, item, seen, stand, stand_n}
 use Rattle.shorthand.specs.Parse.{beyond, leads}
 
 -- ---- digits
@@ -55,29 +52,25 @@ pub record Begins (t : List ℕ) (at : ℕ) (rest : List ℕ) (n : ℕ) : Type 0
 
 -- ---- what the code's answers say, in the definitions' words
 
--- a dimension's kind has its mark and its edition from elsewhere
-abbrev pub making : Edition → Mark → Making → Made Kind
-making e m (Making.Plain d) = made (Plain d)
-making e m (Making.Speed d) = made (Speed d)
-making e m (Making.Dimension z a b) = made (figured e m z a b)
-making e m Making.More = more
-making e m Making.Wrong = wrong
+-- digits make a kind, or could yet, or make none
+abbrev pub making_by : {A B : Type 0} → (A → B) → Result A Unmade → Made B
+making_by k (Ok a) = made (k a)
+making_by k (Err Short) = more
+making_by k (Err Unfit) = wrong
 
--- the item of the letter c that they make, before rest
-abbrev pub closing : Edition → ℕ → Mark → Making → List ℕ → Stand Item
-closing e c m x rest = closed (λ k. record { letter = c; kind = k }) (making e m x) rest
+abbrev pub making : Result Kind Unmade → Made Kind
+making r = making_by (λ k. k) r
 
--- what one digit is the number of: a speed's, or a plain number's
-abbrev pub singly : Bool → ℕ → Kind
-singly true = Speed
-singly false = Plain
+-- an item's pieces, before rest
+abbrev pub pieces_in : List ℕ → Draft → stands.Pieces
+pieces_in rest d = record { letter = d.letter; mark = d.mark; digits = digits_in d.digits; rest = rest }
 
--- an item's pieces in the text t
-abbrev pub pieces_in : List ℕ → Seen → stands.Pieces
-pieces_in t s = record { letter = s.letter; mark = s.mark; digits = digits_in s.digits; rest = drop s.after t }
+abbrev pub drafted : Bool → List ℕ → Option Draft → stands.Seen
+drafted dot rest None = nothing dot
+drafted dot rest (Some d) = item dot (pieces_in rest d)
 
 abbrev pub seen_in : List ℕ → Seen → stands.Seen
-seen_in t s = cond s.named (item s.dot (pieces_in t s)) (nothing s.dot)
+seen_in t s = drafted s.dot (drop s.after t) s.draft
 
 -- s is what stands in t from the place at on: every edition judges it alike, and it ends behind that place and within t
 pub record Sees (t : List ℕ) (at : ℕ) (s : Seen) : Type 0 where
@@ -87,21 +80,17 @@ pub record Sees (t : List ℕ) (at : ℕ) (s : Seen) : Type 0 where
   pub within : s.after ≤ length t
 
 -- of an item before rest
-abbrev pub found : List ℕ → Found → Stand Item
-found rest (Found.Whole it) = whole it rest
-found rest Found.Short = short
-found rest Found.Unfit = unfit
+abbrev pub found : List ℕ → Result Item Unmade → Stand Item
+found rest (Ok it) = whole it rest
+found rest (Err Short) = short
+found rest (Err Unfit) = unfit
 
 -- the N item in the text t: its digit, with the place behind it, or the refusal that it leads to
-abbrev pub Opens : Edition → List ℕ → Sequence → Type 0
-Opens e t (Sequence.Whole d n) = (stand_n e t ≡ whole d (drop n t)) × (n ≤ length t)
-Opens e t (Sequence.Refused number place) = (k : ℕ → List ℕ → Answer Format) → leads 0 t (stand_n e t) (beyond (stand_n Iso2539 t)) k ≡ refused number place
+abbrev pub Opens : Edition → List ℕ → Result (Read ℕ) Refusal → Type 0
+Opens e t (Ok r) = (stand_n e t ≡ whole r.value (drop r.after t)) × (r.after ≤ length t)
+Opens e t (Err r) = (k : ℕ → List ℕ → Answer Format) → leads 0 t (stand_n e t) (beyond (stand_n Iso2539 t)) k ≡ refusal r
 
--- ---- the Format beside the outcome
-
-pub record Says (r : Parsed) (a : Answer Format) : Type 0 where
-  pub outcome : told r.outcome ≡ void a
-  pub format : r.format ≡ value_or empty_format a
+-- ---- the Format
 
 -- one item more, and the dots that it has
 abbrev pub pushed : Format → Bool → Item → Format

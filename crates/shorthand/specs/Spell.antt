@@ -4,7 +4,6 @@ use Rattle.shorthand.specs.declared.Mark.{Mark}
 use Rattle.shorthand.specs.declared.Mark.TheVariants.{Unmarked, Plus, Delta}
 use Rattle.shorthand.specs.declared.Missing.{Missing}
 use Rattle.shorthand.specs.declared.Missing.TheVariants.{Nothing, Leading, Trailing}
-use Rattle.shorthand.specs.declared.Figures.{Figures}
 use Rattle.shorthand.specs.declared.Kind.{Kind}
 use Rattle.shorthand.specs.declared.Kind.TheVariants.{Plain, Speed, Dimension}
 use Rattle.shorthand.specs.declared.Item.{Item}

@@ -1,5 +1,6 @@
 -- How an item stands at a place of the text: whole, or short and still to be mended by further bytes, or past mending (documents 01, "The shorthand", and 02, 1/12 and 4/12).
-use Rattle.std.specs.Prelude.{ℕ, ◌-◌, Bool, false, ◌&&◌, ◌||◌, not, cond, List, [], ◌∷◌, eqb, leb}
+use Rattle.std.specs.Prelude.{ℕ, ◌-◌, Bool, ◌&&◌, ◌||◌, cond, List, [], ◌∷◌, eqb, Option, Some, None}
+use Rattle.std.specs.Bool.{beq}
 use Rattle.shorthand.specs.declared.Mark.{Mark}
 use Rattle.shorthand.specs.declared.Mark.TheVariants.{Unmarked, Plus, Delta}
 use Rattle.shorthand.specs.declared.Missing.{Missing}
@@ -9,8 +10,6 @@ use Rattle.shorthand.specs.declared.Kind.TheVariants.{Plain, Speed, Dimension}
 use Rattle.shorthand.specs.declared.Item.{Item}
 use Rattle.shorthand.specs.declared.Order.{Order}
 use Rattle.shorthand.specs.declared.Edition.{Edition}
-use Rattle.shorthand.specs.declared.Dots.{Dots}
-use Rattle.shorthand.specs.declared.Dots.TheVariants.{Open, Dotted, Plainly}
 use Rattle.shorthand.specs.Spell.{starts, is_digit}
 use Rattle.shorthand.specs.Edition.{later, sequence_most, speed_least, speed_most, allowed}
 use Rattle.shorthand.specs.Lawful.{digit_in, figures_fit}
@@ -135,11 +134,14 @@ closed f wrong rest = unfit
 abbrev pub lettered : Edition → Order → Pieces → Stand Item
 lettered e o p = closed (λ k. record { letter = p.letter; kind = k }) (kind_made e o p) p.rest
 
--- the first word item settles the dots, and 1057 requires them
+-- whether the word items begin with a dot, once the first has settled it
+abbrev pub Dots : Type 0
+Dots = Option Bool
+
+-- in 1057 they do
 abbrev pub dot_fits : Edition → Dots → Bool → Bool
-dot_fits e Open dot = later e || dot
-dot_fits e Dotted dot = dot
-dot_fits e Plainly dot = not dot
+dot_fits e None dot = later e || dot
+dot_fits e (Some settled) dot = beq dot settled
 
 -- what stands at the front of a text: an item's pieces, behind a dot or not; or the text ends there
 pub data Seen : Type 0 where

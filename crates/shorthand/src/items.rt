@@ -1,113 +1,76 @@
 // How an item stands, by its pieces: the word items, and N.
 ghost use Rattle.std.specs.Prelude.{◌≡◌, drop};
-ghost use Rattle.shorthand.specs.Stand.{dot_fits, stand};
-ghost use Rattle.shorthand.specs.Places.{closing, found, seen_in, Opens};
+ghost use Rattle.shorthand.specs.Stand.{Dots, dot_fits, stand};
+ghost use Rattle.shorthand.specs.Places.{found, seen_in, Opens};
 
 use crate::kinds::make_kind;
 use crate::orders::LAST;
 use crate::pieces::{is_within, read_digits};
-use crate::{
-    Digits, Dots, Edition, Figures, Found, Item, Kind, Making, Mark, Order, Seen, Sequence,
-    is_later,
-};
+use crate::{Digits, Edition, Item, Order, Read, Seen, Unmade};
+use rows::{Cause, Refusal};
 
-// The item that its digits make.
-fn close_item(
-    edition: Edition,
-    letter: u8,
-    mark: Mark,
-    made: Making,
-    text: &[u8],
-    after: usize,
-) -> Found
-    ensures { found (drop after text.now) result ≡ closing edition letter mark made (drop after text.now) }
-{
-    let kind = match made {
-        Making::Plain(d) => Kind::Plain(d),
-        Making::Speed(d) => Kind::Speed(d),
-        Making::Dimension(missing, before, behind) => Kind::Dimension(Figures {
-            mark,
-            before,
-            after: behind,
-            missing,
-            bare: is_later(edition),
-        }),
-        Making::More => {
-            // Further bytes are its digits only where the text ends with it.
-            if after < text.len() {
-                return Found::Unfit;
-            }
-            return Found::Short;
-        }
-        Making::Wrong => {
-            return Found::Unfit;
-        }
-    };
-    Found::Whole(Item { letter, kind })
-}
-
-fn dot_fits(edition: Edition, dots: Dots, dot: bool) -> bool
+fn dot_fits(edition: Edition, dots: Option<bool>, dot: bool) -> bool
     ensures { result ≡ dot_fits edition dots dot }
 {
     match dots {
-        Dots::Open => is_later(edition) || dot,
-        Dots::Dotted => dot,
-        Dots::Plainly => !dot,
+        None => edition.is_later() || dot,
+        Some(settled) => dot == settled,
     }
 }
 
 // The word item with these pieces, behind these dots and this order.
 pub(crate) fn judge_item(
     edition: Edition,
-    dots: Dots,
+    dots: Option<bool>,
     order: Order,
     seen: Seen,
     text: &[u8],
-) -> Found
+) -> Result<Item, Unmade>
     ensures { found (drop seen.after text.now) result ≡ stand edition dots order (seen_in text.now seen) }
 {
     if !dot_fits(edition, dots, seen.dot) {
-        return Found::Unfit;
+        return Err(Unmade::Unfit);
     }
-    if !seen.named {
-        if order.last < LAST {
-            return Found::Short;
-        }
-        return Found::Unfit;
+    let Some(draft) = seen.draft else {
+        // At the end of the text an item could still come, or none.
+        return Err(if order.last < LAST {
+            Unmade::Short
+        } else {
+            Unmade::Unfit
+        });
+    };
+    match make_kind(edition, order, draft) {
+        Ok(kind) => Ok(Item {
+            letter: draft.letter,
+            kind,
+        }),
+        // Further bytes are its digits only where the text ends with it.
+        Err(unmade) if text.len() <= seen.after => Err(unmade),
+        Err(_) => Err(Unmade::Unfit),
     }
-    let mark = seen.mark;
-    let made = make_kind(edition, order, seen);
-    close_item(edition, seen.letter, mark, made, text, seen.after)
 }
 
-// The N item at the front of the text: in form first, and then in the edition.
-pub(crate) fn sequence_at(edition: Edition, text: &[u8]) -> Sequence
+// The N item at the front of the text, by its digit: in form first, and then in the edition.
+pub(crate) fn sequence_at(edition: Edition, text: &[u8]) -> Result<Read<u8>, Refusal>
     ensures { Opens edition text.now result }
 {
-    if text.len() == 0 || text[0] != b'N' {
-        return Sequence::Refused(2, 0);
+    if !text.starts_with(b"N") {
+        return Err(Cause::ShorthandForm.at(0));
     }
     let run = read_digits(text, 1);
-    let digits = run.digits;
-    let after = run.after;
-    match digits {
-        Digits::Empty => {
-            if after < text.len() {
-                Sequence::Refused(2, 0)
-            } else {
-                Sequence::Refused(2, text.len())
-            }
-        }
-        Digits::One(d) => {
-            if !is_within(3, 9, d) {
-                return Sequence::Refused(2, 0);
-            }
+    match run.value {
+        Digits::One(d) if is_within(3, 9, d) => {
             // N4 to N9 are in form, and past mending in 1057.
-            if 3 < d && !is_later(edition) {
-                return Sequence::Refused(3, 0);
+            if 3 < d && !edition.is_later() {
+                return Err(Cause::BeyondEdition.at(0));
             }
-            Sequence::Whole(d, after)
+            Ok(Read {
+                value: d,
+                after: run.after,
+            })
         }
-        _ => Sequence::Refused(2, 0),
+        // Its digit may yet come where the text ends with N.
+        Digits::Empty if text.len() <= run.after => Err(Cause::ShorthandForm.at(text.len())),
+        _ => Err(Cause::ShorthandForm.at(0)),
     }
 }

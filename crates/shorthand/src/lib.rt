@@ -2,10 +2,11 @@
 #![tactic(auto)]
 
 ghost use Rattle.std.specs.Prelude.{◌≡◌};
-ghost use Rattle.rows.specs.Answer.{told, void, value_or};
-ghost use Rattle.shorthand.specs.Layout.{empty_format};
+ghost use Rattle.rows.specs.Answer.{told, told_by};
 ghost use Rattle.shorthand.specs.Edition.{later};
-ghost use Rattle.shorthand.specs.Parse.{parsed};
+ghost use Rattle.shorthand.specs.Facts.{Facts};
+ghost use Rattle.shorthand.specs.OneFacts.{facts-prop};
+ghost use Rattle.shorthand.specs.Parse.{edition_by, parsed};
 
 mod formats;
 mod items;
@@ -14,19 +15,18 @@ mod orders;
 mod pieces;
 
 use formats::read_items;
-pub use formats::refuse;
 use items::sequence_at;
-use rows::Checked;
+use rows::{Cause, Refusal};
 
 // The editions: ISO 1057, and ISO 2539, which holds whatever is in form at all.
-#[derive(Clone, Copy)]
+#[derive(Clone, Copy, PartialEq, Eq)]
 pub enum Edition {
     Iso1057,
     Iso2539,
 }
 
 // A dimension's mark: none, "+" or "D".
-#[derive(Clone, Copy)]
+#[derive(Clone, Copy, PartialEq, Eq)]
 pub enum Mark {
     Unmarked,
     Plus,
@@ -66,6 +66,7 @@ pub struct Item {
 }
 
 // Whether a block may have no number, N's digits, dots or none, whether words have addresses, and the items.
+// The first `count` of 22 places hold them, and no list does: there is no heap, and a Format is copied by value.
 #[derive(Clone, Copy)]
 pub struct Format {
     pub unnumbered: bool,
@@ -76,21 +77,15 @@ pub struct Format {
     pub items: [Item; 22],
 }
 
-// Whether the word items begin with a dot: open until the first settles it.
+// A Format that a shorthand gave, with the facts that reading and punching rest on.
 #[derive(Clone, Copy)]
-pub enum Dots {
-    Open,
-    Dotted,
-    Plainly,
-}
-
-#[derive(Clone, Copy)]
-pub struct Parsed {
-    pub outcome: Checked,
+pub struct Usable {
     pub format: Format,
+    ghost facts: { Facts format } by { facts-prop format },
 }
 
-// Where the walk over the items stands: the rank reached, whether the last item is a dimension, and whether F, E and D, the first, second and third feed, have stood.
+// Where the walk over the items stands: the rank reached, whether the last item is a dimension, and whether F, E and D, the first, second and third feed,
+// have stood.
 #[derive(Clone, Copy)]
 struct Order {
     last: u8,
@@ -100,7 +95,7 @@ struct Order {
     third: bool,
 }
 
-// The digits that stand together at a place, as far as they can make an item.
+// The digits that stand together at a place, as far as they can make an item; no slice of the text, since past three all are alike, and each is a value.
 #[derive(Clone, Copy)]
 enum Digits {
     Empty,
@@ -110,79 +105,66 @@ enum Digits {
     Many,
 }
 
-// Digits, and the place after them.
+// What is read at a place, and the place after it.
 #[derive(Clone, Copy)]
-struct Run {
-    digits: Digits,
+struct Read<T> {
+    value: T,
     after: usize,
 }
 
-// A mark, and the place after it.
+// An item behind its dot, as it is written.
 #[derive(Clone, Copy)]
-struct Marked {
-    mark: Mark,
-    after: usize,
-}
-
-// What an item's digits make: the numbers of a kind; or nothing, where more digits could make one, or none can.
-#[derive(Clone, Copy)]
-enum Making {
-    Plain(u8),
-    Speed(u8),
-    Dimension(Missing, u8, u8),
-    More,
-    Wrong,
-}
-
-// What is read of a word item at a place: its dot; its letter, unless the text ends there; its mark and digits; and the place after them.
-#[derive(Clone, Copy)]
-struct Seen {
-    dot: bool,
-    named: bool,
+struct Draft {
     letter: u8,
     mark: Mark,
     digits: Digits,
+}
+
+// What is read of a word item at a place: its dot; the rest of it, unless the text ends there; and the place after it.
+#[derive(Clone, Copy)]
+struct Seen {
+    dot: bool,
+    draft: Option<Draft>,
     after: usize,
 }
 
-// How a word item stands: whole; short, so that further bytes could mend it; past mending.
+// Why no item is made: it is short, so that more could mend it; or past mending.
 #[derive(Clone, Copy)]
-enum Found {
-    Whole(Item),
+enum Unmade {
     Short,
     Unfit,
 }
 
-// The digits of N's numbers, with the place after the N item; or its refusal, by number and place.
-#[derive(Clone, Copy)]
-enum Sequence {
-    Whole(u8, usize),
-    Refused(u32, usize),
+impl Edition {
+    // What only 2539 has.
+    fn is_later(self) -> bool
+        ensures { result ≡ later self }
+    {
+        self == Edition::Iso2539
+    }
 }
 
-fn is_later(edition: Edition) -> bool
-    ensures { result ≡ later edition }
-{
-    match edition {
-        Edition::Iso1057 => false,
-        Edition::Iso2539 => true,
+// The edition with a number.
+impl TryFrom<u32> for Edition {
+    type Error = Refusal;
+
+    ghost try_from_gives = { λ n r. told r ≡ edition_by n };
+
+    fn try_from(number: u32) -> Result<Edition, Refusal> {
+        match number {
+            1057 => Ok(Edition::Iso1057),
+            2539 => Ok(Edition::Iso2539),
+            _ => Err(Cause::Edition.at(0)),
+        }
     }
 }
 
 // The Format of a shorthand under an edition.
-pub fn parse(edition: u32, text: &[u8]) -> Parsed
-    ensures outcome { told result.outcome ≡ void (parsed edition text.now) }
-    ensures format { result.format ≡ value_or empty_format (parsed edition text.now) }
+pub fn parse(edition: u32, text: &[u8]) -> Result<Usable, Refusal>
+    ensures { told_by (λ usable. usable.format) result ≡ parsed edition text.now }
 {
-    let known = match edition {
-        1057 => Edition::Iso1057,
-        2539 => Edition::Iso2539,
-        _ => {
-            return refuse(1, 0);
-        }
-    };
-    match sequence_at(known, text) {
-        Sequence::Whole(sequence, next) => read_items(known, sequence, text, next),
-        Sequence::Refused(number, place) => refuse(number, place),
-    }
+    let edition = Edition::try_from(edition)?;
+    let sequence = sequence_at(edition, text)?;
+    let format = read_items(edition, sequence.value, text, sequence.after)?;
+    Ok(Usable { format })
 }

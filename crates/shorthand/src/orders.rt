@@ -1,10 +1,9 @@
 // The order of the items: what may come at a place, and what an item leaves to come.
-ghost use Rattle.std.specs.Prelude.{◌≡◌, ◌&&◌};
+ghost use Rattle.std.specs.Prelude.{◌≡◌};
 ghost use Rattle.shorthand.specs.Edition.{allowed};
 ghost use Rattle.shorthand.specs.Order.{rank, used, due_as_feed, due_as_dimension, reached, after};
 
-use crate::pieces::is_within;
-use crate::{Edition, Item, Kind, Order, is_later};
+use crate::{Edition, Item, Kind, Order};
 
 // G comes before every dimension.
 const GENERAL: u8 = 1;
@@ -24,7 +23,7 @@ pub(crate) const START: Order = Order {
     third: false,
 };
 
-// The places of A to Z in the order of the items, from 1; 0 where no item has the letter.
+// The places of A to Z in the order of the items, from 1; 0 where no item has the letter, and no Option, since `rank` says so.
 const RANKS: [u8; 26] = [
     14, 15, 16, 17, 18, 19, 1, 0, 11, 12, 13, 0, 22, 0, 0, 8, 9, 10, 20, 21, 5, 6, 7, 2, 3, 4,
 ];
@@ -32,11 +31,11 @@ const RANKS: [u8; 26] = [
 pub(crate) fn rank_of(letter: u8) -> u8
     ensures { result ≡ rank letter }
 {
-    if !is_within(b'A', b'Z', letter) {
-        return 0;
+    if letter.is_ascii_uppercase() {
+        RANKS[(letter - b'A') as usize]
+    } else {
+        0
     }
-    let i = (letter - b'A') as usize;
-    RANKS[i]
 }
 
 // A letter is either feed or dimension, and stands once.
@@ -57,15 +56,18 @@ pub(crate) fn due_as_feed(order: Order, letter: u8) -> bool
     order.last <= FEEDS && !is_used(order, letter)
 }
 
-pub(crate) fn due_as_dimension(edition: Edition, order: Order, letter: u8) -> bool
-    ensures { result ≡ (allowed edition letter && due_as_dimension order letter) }
+// I, J and K are for 2539 only.
+pub(crate) fn is_allowed(edition: Edition, letter: u8) -> bool
+    ensures { result ≡ allowed edition letter }
+{
+    edition.is_later() || !matches!(letter, b'I'..=b'K')
+}
+
+pub(crate) fn due_as_dimension(order: Order, letter: u8) -> bool
+    ensures { result ≡ due_as_dimension order letter }
 {
     let rank = rank_of(letter);
-    if rank <= order.last || !is_within(GENERAL + 1, FEEDS - 1, rank) {
-        return false;
-    }
-    // I, J and K are for 2539 only.
-    if is_within(11, 13, rank) && !is_later(edition) {
+    if rank <= order.last || rank <= GENERAL || FEEDS <= rank {
         return false;
     }
     !is_used(order, letter)
@@ -76,8 +78,7 @@ fn rank_reached(order: Order, item: Item) -> u8
     ensures { result ≡ reached order item }
 {
     let letter = item.letter;
-    let kind = item.kind;
-    let Kind::Speed(_) = kind else {
+    let Kind::Speed(_) = item.kind else {
         return rank_of(letter);
     };
     match letter {
@@ -94,14 +95,9 @@ pub(crate) fn order_after(order: Order, item: Item) -> Order
     ensures { result ≡ after order item }
 {
     let letter = item.letter;
-    let kind = item.kind;
-    let fresh = match kind {
-        Kind::Dimension(_) => true,
-        _ => false,
-    };
     Order {
         last: rank_reached(order, item),
-        fresh,
+        fresh: matches!(item.kind, Kind::Dimension(_)),
         first: (letter == b'F') | order.first,
         second: (letter == b'E') | order.second,
         third: (letter == b'D') | order.third,

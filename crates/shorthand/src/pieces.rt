@@ -4,12 +4,12 @@ ghost use Rattle.shorthand.specs.Lawful.{digit_in};
 ghost use Rattle.shorthand.specs.Stand.{digits_of, after_digits, mark_of, after_mark};
 ghost use Rattle.shorthand.specs.Places.{added, added_all, Begins, Sees};
 
-use crate::{Digits, Mark, Marked, Run, Seen};
+use crate::{Digits, Draft, Mark, Read, Seen};
 
-pub(crate) fn is_within(low: u8, high: u8, b: u8) -> bool
-    ensures { result ≡ digit_in low high b }
+pub(crate) fn is_within(low: u8, high: u8, d: u8) -> bool
+    ensures { result ≡ digit_in low high d }
 {
-    low <= b && b <= high
+    (low..=high).contains(&d)
 }
 
 fn add_digit(digits: Digits, d: u8) -> Digits
@@ -19,52 +19,38 @@ fn add_digit(digits: Digits, d: u8) -> Digits
         Digits::Empty => Digits::One(d),
         Digits::One(a) => Digits::Two(a, d),
         Digits::Two(a, b) => Digits::Three(a, b, d),
-        Digits::Three(_, _, _) => Digits::Many,
-        Digits::Many => Digits::Many,
+        Digits::Three(_, _, _) | Digits::Many => Digits::Many,
     }
 }
 
-pub(crate) fn read_digits(text: &[u8], at: usize) -> Run
-    ensures digits { result.digits ≡ added_all Digits.Empty (digits_of (drop at text.now)) }
+pub(crate) fn read_digits(text: &[u8], at: usize) -> Read<Digits>
+    ensures digits { result.value ≡ added_all Digits.Empty (digits_of (drop at text.now)) }
     ensures after { Begins text.now at (after_digits (drop at text.now)) result.after }
 {
-    let mut digits = Digits::Empty;
-    let mut i = at;
-    while i < text.len() {
-        let b = text[i];
-        if !is_within(b'0', b'9', b) {
-            return Run { digits, after: i };
+    let mut value = Digits::Empty;
+    for after in at..text.len() {
+        let b = text[after];
+        if !b.is_ascii_digit() {
+            return Read { value, after };
         }
-        digits = add_digit(digits, b - b'0');
-        i += 1;
+        value = add_digit(value, b - b'0');
     }
-    Run { digits, after: i }
+    Read {
+        value,
+        after: at.max(text.len()),
+    }
 }
 
-fn read_mark(text: &[u8], at: usize) -> Marked
-    ensures mark { result.mark ≡ mark_of (drop at text.now) }
+fn read_mark(text: &[u8], at: usize) -> Read<Mark>
+    ensures mark { result.value ≡ mark_of (drop at text.now) }
     ensures after { Begins text.now at (after_mark (drop at text.now)) result.after }
 {
-    if text.len() <= at {
-        return Marked {
-            mark: Mark::Unmarked,
-            after: at,
-        };
-    }
-    match text[at] {
-        b'+' => Marked {
-            mark: Mark::Plus,
-            after: at + 1,
-        },
-        b'D' => Marked {
-            mark: Mark::Delta,
-            after: at + 1,
-        },
-        _ => Marked {
-            mark: Mark::Unmarked,
-            after: at,
-        },
-    }
+    let (value, after) = match text.get(at) {
+        Some(b'+') => (Mark::Plus, at + 1),
+        Some(b'D') => (Mark::Delta, at + 1),
+        _ => (Mark::Unmarked, at),
+    };
+    Read { value, after }
 }
 
 // An item is read once, for whichever edition judges it.
@@ -77,24 +63,19 @@ pub(crate) fn see_item(text: &[u8], at: usize) -> Seen
     if text.len() <= front {
         return Seen {
             dot,
-            named: false,
-            letter: 0,
-            mark: Mark::Unmarked,
-            digits: Digits::Empty,
+            draft: None,
             after: front,
         };
     }
-    let letter = text[front];
-    let marked = read_mark(text, front + 1);
-    let mark = marked.mark;
-    let run = read_digits(text, marked.after);
-    let digits = run.digits;
+    let mark = read_mark(text, front + 1);
+    let digits = read_digits(text, mark.after);
     Seen {
         dot,
-        named: true,
-        letter,
-        mark,
-        digits,
-        after: run.after,
+        draft: Some(Draft {
+            letter: text[front],
+            mark: mark.value,
+            digits: digits.value,
+        }),
+        after: digits.after,
     }
 }

@@ -16,7 +16,7 @@ use Rattle.reading.specs.Record.{words_of}
 use Rattle.slides.specs.declared.Slides.{Slides}
 use Rattle.slides.specs.declared.Rule.{Rule}
 use Rattle.slides.specs.declared.Motion.{Motion}
-use Rattle.slides.specs.declared.Motion.TheVariants.{Still, Moves}
+use Rattle.std.specs.Prelude.{Option, Some, None}
 use Rattle.slides.specs.Axes.{axes, of}
 use Rattle.slides.specs.Moves.{motion_of, adds, put, placed, moved, chosen, counts, start}
 use Rattle.slides.specs.History.{words_moved, block_moved, history, Act, sets, adding, act_by, act_of, acts_in, acts_of, sum, Stands, never_set, last_set}
@@ -60,18 +60,24 @@ one_place p q = sym (stands_at p) ∙ stands_at q
 -- ---- the words of a block
 
 module _ (r : Rule) (a : ℕ) (axis : a < length axes) where
-  moved-long : (increments : Bool) (zs : List ℤ) (m : Motion) → length (moved r increments zs m) ≡ length zs
-  moved-long increments zs Still = refl
-  moved-long increments zs (Moves b x) = length-set zs b (placed r increments zs b x)
+  moved-long : (increments : Bool) (zs : List ℤ) (m : Option Motion) → length (moved r increments zs m) ≡ length zs
+  moved-long increments zs None = refl
+  moved-long increments zs (Some m) = length-set zs m.axis (placed r increments zs m.axis m.value)
 
   act-puts : (adds : Bool) (z x : ℤ) → stand (act_by adds x ∷ []) z ≡ put adds z x
   act-puts true z x = refl
   act-puts false z x = refl
 
-  motion : (increments : Bool) (zs : List ℤ) → length zs ≡ length axes → (m : Motion) → of (moved r increments zs m) a ≡ stand (act_of r increments a m) (of zs a)
-  motion increments zs long Still = refl
-  motion increments zs long (Moves b x) = by (eqb a b) refl
+  motion : (increments : Bool) (zs : List ℤ) → length zs ≡ length axes → (m : Option Motion) → of (moved r increments zs m) a ≡ stand (act_of r increments a m) (of zs a)
+  motion increments zs long None = refl
+  motion increments zs long (Some m) = by (eqb a m.axis) refl
     where
+      b : ℕ
+      b = m.axis
+
+      x : ℤ
+      x = m.value
+
       by : (t : Bool) → eqb a b ≡ t
           → of (set zs b (placed r increments zs b x)) a ≡ stand (cond t (act_by (adds r increments b) x ∷ []) []) (of zs a)
       by true e =

@@ -5,15 +5,14 @@ use native.Mathlib.Omega.{arith}
 use mathlib.Core.Path.{◌≡◌, refl, sym, ap, ◌∙◌}
 use mathlib.Core.Bool.{true, false}
 use mathlib.Core.List.{List, [], ◌∷◌}
-use lib.Dec.{ltb}
 use lib.IntN.{ℤ}
 use lib.ListN.{get_or, drop, drop_of_length-le}
 use lib.Seq.{drop-cons}
-use borrow.Author.Tests.{eq-eqb, ne_eqb, ltb-true}
-use Rattle.rows.proofs.Tabulated.{tab-passes}
+use borrow.Author.Tests.{eq-eqb, ne_eqb, lt-ltb}
+use Rattle.std.specs.Prelude.{Some}
 use Rattle.rows.specs.Answer.{taken, refused}
 use Rattle.slides.specs.declared.Travel.{Travel}
-use Rattle.slides.specs.Axes.{axes, axis_of, place_in, of, unsound, sound, sound_from}
+use Rattle.slides.specs.Axes.{axes, axis_of, axis_named, place_in, of, unsound, sound, sound_from}
 
 -- axis a and those behind it
 ahead : (a : ℕ) → a < 14 → drop a axes ≡ get_or axes a 0 ∷ drop (a + 1) axes
@@ -21,10 +20,6 @@ ahead a l = rw (add-one, drop-cons axes a 0 l)
 
 none_ahead : (a : ℕ) → 14 ≤ a → drop a axes ≡ []
 none_ahead a l = drop_of_length-le axes {i = a} l
-
--- a letter is a byte
-pub letter-fits : (a : ℕ) → a < 14 → get_or axes a 0 < 256
-letter-fits a l = ltb-true (get_or axes a 0) 256 (tab-passes (λ k. ltb (get_or axes k 0) 256) 14 refl a l)
 
 -- ---- the axis of a letter
 
@@ -45,20 +40,17 @@ pub record Sought (c a : ℕ) : Type 0 where
   pub few : a ≤ 14
   pub left : axis_of c ≡ a + place_in c (drop a axes)
 
-pub seek-starts : (c : ℕ) → Sought c 0
-seek-starts c = record { few = omega arith; left = omega arith }
-
 module _ {c a : ℕ} (s : Sought c a) where
-  pub seek-ends : a < 14 → get_or axes a 0 ≡ c → a ≡ axis_of c
-  seek-ends l e = let p = s.left ∙ ap (λ cs. a + place_in c cs) (ahead a l) in omega (arith, p, place_here c (get_or axes a 0) (drop (a + 1) axes) e)
+  pub seek-ends : a < 14 → get_or axes a 0 ≡ c → Some a ≡ axis_named c
+  seek-ends l e =
+      let p = s.left ∙ ap (λ cs. a + place_in c cs) (ahead a l) in
+      let own : axis_of c ≡ a = omega (arith, p, place_here c (get_or axes a 0) (drop (a + 1) axes) e) in
+      rw (own, lt-ltb a 14 l)
 
   pub seek-goes-on : a < 14 → (get_or axes a 0 ≡ c → ⊥) → Sought c (a + 1)
   seek-goes-on l n =
       let p = s.left ∙ ap (λ cs. a + place_in c cs) (ahead a l) in
       record { few = omega arith; left = omega (arith, p, place-on c (get_or axes a 0) (drop (a + 1) axes) n) }
-
-  pub seek-fails : 14 ≤ a → 14 ≡ axis_of c
-  seek-fails l = let p = s.left ∙ ap (λ cs. a + place_in c cs) (none_ahead a l) in omega (arith, p, s.few, place_none c)
 
 -- ---- the first axis that can't be followed
 
@@ -67,9 +59,6 @@ module _ (t : Travel) (zs : List ℤ) where
   pub record Trodden (a : ℕ) : Type 0 where
     pub few : a ≤ 14
     pub left : sound t zs ≡ sound_from t zs a (drop a axes)
-
-  pub tread-starts : Trodden 0
-  tread-starts = record { few = omega arith; left = refl }
 
   module _ {a : ℕ} (s : Trodden a) where
     bad-here : (x : ℕ) (cs : List ℕ) → unsound (of t.low a) (of t.high a) (of zs a) ≡ true → sound_from t zs a (x ∷ cs) ≡ refused 26 x

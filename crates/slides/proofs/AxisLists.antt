@@ -7,7 +7,7 @@ use mathlib.Core.List.{List, [], ◌∷◌, map}
 use lib.Dec.{eqb, ltb}
 use lib.ListN.{length, get_or}
 use borrow.Author.Tests.{eqb-true, eqb-false, ltb-true}
-use Rattle.profile.proofs.Slots.{same-below}
+use Rattle.shorthand.proofs.LetterBytes.{same-below}
 use Rattle.slides.specs.Axes.{axes, place_in, axis_of}
 
 -- what stands at the place of a letter is that letter

@@ -35,7 +35,7 @@ use Rattle.slides.specs.declared.Travel.{Travel}
 use Rattle.slides.specs.declared.Slides.{Slides}
 use Rattle.slides.specs.declared.Rule.{Rule}
 use Rattle.slides.specs.declared.Motion.{Motion}
-use Rattle.slides.specs.declared.Motion.TheVariants.{Still, Moves}
+use Rattle.std.specs.Prelude.{Option, Some, None}
 use Rattle.slides.specs.Axes.{axes, axis_of, of}
 use Rattle.slides.specs.Moves.{choosing, is_delta, rule_of, motion_by, chosen_by, motion_of, put, adds, placed, moved, chosen_in, chosen, counts}
 use Rattle.slides.specs.History.{words_moved, block_moved}
@@ -57,9 +57,9 @@ pub record Alone (c : ℕ) (w : Word) (ws : List Word) : Type 0 where
 -- ---- one word, and the words of a block
 
 module _ (r : Rule) (increments : Bool) where
-  length_moved : (zs : List ℤ) (m : Motion) → length (moved r increments zs m) ≡ length zs
-  length_moved zs Still = refl
-  length_moved zs (Moves a x) = length-set zs a (placed r increments zs a x)
+  length_moved : (zs : List ℤ) (m : Option Motion) → length (moved r increments zs m) ≡ length zs
+  length_moved zs None = refl
+  length_moved zs (Some m) = length-set zs m.axis (placed r increments zs m.axis m.value)
 
   length-words : (ws : List Word) (zs : List ℤ) → length (words_moved r increments ws zs) ≡ length zs
   unfolding words_moved
@@ -78,7 +78,7 @@ module _ (r : Rule) (increments : Bool) where
     unmoved c (Speed s) zs h = refl
     unmoved c (Dimension x) zs h = by (ltb (axis_of c) (length axes)) refl
       where
-        by : (t : Bool) → ltb (axis_of c) (length axes) ≡ t → of (moved r increments zs (cond t (Moves (axis_of c) x) Still)) a ≡ of zs a
+        by : (t : Bool) → ltb (axis_of c) (length axes) ≡ t → of (moved r increments zs (cond t (Some (record { axis = axis_of c; value = x })) None)) a ≡ of zs a
         by true q = get_or-set_other zs (axis_of c) a (placed r increments zs (axis_of c) x) (pos 0) (other-axis a c h q)
         by false q = refl
 
@@ -126,7 +126,7 @@ module _ (r : Rule) (b : Block) (s : Slides) (long : length s.places ≡ length 
       λ ys n same. rw h.letter (own r increments a axis w.value x ys (n ∙ long) e ∙ ap (λ z. put (adds r increments a) z x) same) in
       ap (λ l. of l a) (if-counts r b s counted) ∙ words-alone r increments a w (words_of b) s.places h (put (adds r increments a) (of s.places a) x) f
 
-still : (a : ℕ) (v : Value) → ((x : ℤ) → v ≡ Dimension x → ⊥) → motion_by a v ≡ Still
+still : (a : ℕ) (v : Value) → ((x : ℤ) → v ≡ Dimension x → ⊥) → motion_by a v ≡ None
 still a (Number n) h = refl
 still a (Speed s) h = refl
 still a (Dimension x) h = absurd (h x refl)

@@ -3,7 +3,6 @@ use Prim.Native.Nat.{ℕ}
 use mathlib.Core.Path.{◌≡◌, refl, ap}
 use mathlib.Core.Bool.{Bool, true, false, not, ◌&&◌, ◌||◌, cond}
 use mathlib.Core.List.{List, [], ◌∷◌}
-use borrow.Author.Tests.{not-true, not-false}
 use lib.IntN.{ℤ}
 use lib.ListN.{set}
 use Rattle.rows.specs.Answer.{Answer, taken, refused, value_or, ◌>>=◌}
@@ -13,12 +12,10 @@ use Rattle.reading.specs.Record.{words_of}
 use Rattle.reading.proofs.Outcomes.{never}
 use Rattle.slides.specs.declared.Rule.{Rule}
 use Rattle.slides.specs.declared.Slides.{Slides}
-use Rattle.slides.specs.declared.Moved.{Moved}
 use Rattle.slides.specs.declared.Motion.{Motion}
-use Rattle.slides.specs.declared.Motion.TheVariants.{Still, Moves}
+use Rattle.std.specs.Prelude.{Option, Some, None}
 use Rattle.slides.specs.Axes.{axis_of, within}
 use Rattle.slides.specs.Moves.{motion_of, placed, moved, leaves, chosen, words_tried, counts, counted, block_tried}
-use Rattle.slides.specs.Front.{moved_told, slide_answer}
 use Rattle.slides.proofs.WordMotions.{moved-axis}
 use Rattle.slides.proofs.WordTrials.{Sound, sound-put}
 
@@ -31,20 +28,17 @@ counts-test true false = refl
 counts-test false slashed = refl
 
 module _ (r : Rule) (k : ℕ) (b : Block) (s : Slides) where
-  pub passed-by : (b.skip && not r.slashed) ≡ true → slide_answer (taken s) ≡ slide_answer (block_tried r k b s)
+  pub passed-by : (b.skip && not r.slashed) ≡ true → taken s ≡ block_tried r k b s
   unfolding block_tried
   passed-by e = rw (counts-test b.skip r.slashed, e)
 
-  module _ (there : (b.skip && not r.slashed) ≡ false) (increments : Bool) (chose : increments ≡ chosen r (words_of b) s.increments) (m : Moved) (told : (i : ℕ) → moved_told i m ≡ words_tried r increments i (words_of b) s.places) where
-    by-words : block_tried r k b s ≡ (moved_told k m >>= λ zs. taken (record { places = zs; increments = increments }))
+  module _ (there : (b.skip && not r.slashed) ≡ false) (increments : Bool) (chose : increments ≡ chosen r (words_of b) s.increments) where
+    abbrev after : Answer (List ℤ) → Answer Slides
+    after a = a >>= λ zs. taken (record { places = zs; increments = increments })
+
+    pub by-words : (a : Answer (List ℤ)) → a ≡ words_tried r increments k (words_of b) s.places → after a ≡ block_tried r k b s
     unfolding block_tried
-    by-words = rw (counts-test b.skip r.slashed, there, told k, chose)
-
-    pub left-travel : not m.inside ≡ true → slide_answer (refused 27 k) ≡ slide_answer (block_tried r k b s)
-    left-travel e = rw (by-words, not-true m.inside e)
-
-    pub stayed : not m.inside ≡ false → slide_answer (taken (record { places = m.places; increments = increments })) ≡ slide_answer (block_tried r k b s)
-    stayed e = rw (by-words, not-false m.inside e)
+    by-words a e = rw (counts-test b.skip r.slashed, there, e, chose)
 
 -- ---- what is kept
 
@@ -54,16 +48,16 @@ module _ (r : Rule) (k : ℕ) where
   words-keep increments [] zs us h e = let same : zs ≡ us = cc in rw (← same) h
   words-keep increments (w ∷ ws) zs us h e = by (motion_of w) refl (λ vs g. words-keep increments ws vs us g) e
     where
-      by : (m : Motion) → motion_of w ≡ m → ((vs : List ℤ) → Sound r vs → words_tried r increments k ws vs ≡ taken us → Sound r us)
+      by : (m : Option Motion) → motion_of w ≡ m → ((vs : List ℤ) → Sound r vs → words_tried r increments k ws vs ≡ taken us → Sound r us)
           → cond (leaves r increments zs m) (refused 27 k) (words_tried r increments k ws (moved r increments zs m)) ≡ taken us → Sound r us
-      by Still q turn f = turn zs h f
-      by (Moves a x) q turn f = on (within r.travel a (placed r increments zs a x)) refl f
+      by None q turn f = turn zs h f
+      by (Some m) q turn f = on (within r.travel m.axis (placed r increments zs m.axis m.value)) refl f
         where
-          on : (y : Bool) → within r.travel a (placed r increments zs a x) ≡ y → cond (not y) (refused 27 k) (words_tried r increments k ws (moved r increments zs (Moves a x))) ≡ taken us → Sound r us
+          on : (y : Bool) → within r.travel m.axis (placed r increments zs m.axis m.value) ≡ y → cond (not y) (refused 27 k) (words_tried r increments k ws (moved r increments zs (Some m))) ≡ taken us → Sound r us
           on true p g =
-              let to = placed r increments zs a x in
-              let own = (moved-axis (axis_of w.letter) w.value a x q).0 in
-              turn (set zs a to) (sound-put r zs h a own to p) g
+              let to = placed r increments zs m.axis m.value in
+              let own = (moved-axis (axis_of w.letter) w.value m q).0 in
+              turn (set zs m.axis to) (sound-put r zs h m.axis own to p) g
           on false p g = never g
 
   pub block-keeps : (b : Block) (s u : Slides) → Sound r s.places → block_tried r k b s ≡ taken u → Sound r u.places

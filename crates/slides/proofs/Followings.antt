@@ -1,48 +1,31 @@
 -- The blocks of an accepted tape followed one behind another, to the first that leaves its travel.
 use Prim.Native.Nat.{ℕ, suc, ◌+◌, ◌≤◌, ◌<◌}
-use mathlib.Core.Path.{◌≡◌, refl, sym, ap, ◌∙◌}
+use mathlib.Core.Path.{◌≡◌, sym, ap, ◌∙◌}
 use mathlib.Core.List.{List, [], ◌∷◌}
 use native.Mathlib.Numerals.{add-one}
 use native.Mathlib.Omega.{arith}
 use lib.ListN.{length, get_or, take, drop, length-map, get_or-map, drop_of_length-le}
 use lib.Seq.{length-take-le, drop-cons, get_or-take}
-use Rattle.rows.specs.declared.Checked.TheVariants.{Clean}
-use Rattle.rows.specs.Answer.{Answer, taken, refused, told, ◌>>=◌}
+use Rattle.rows.specs.Answer.{Answer, taken, refused, ◌>>=◌}
 use Rattle.rows.specs.Stages.{limit}
 use Rattle.rows.proofs.Judged.{clean-passes}
 use Rattle.shorthand.specs.declared.Format.{Format}
 use Rattle.shorthand.specs.Facts.{Facts}
-use Rattle.reading.specs.declared.EntryAnswer.{EntryAnswer}
-use Rattle.reading.specs.Parse.{Entry}
+use Rattle.reading.specs.declared.Entry.{Entry}
 use Rattle.reading.specs.Answers.{nowhere, read}
-use Rattle.reading.specs.Survey.{entry_from, entry_answer}
-use Rattle.reading.proofs.Outcomes.{never}
+use Rattle.reading.specs.Survey.{entry_from}
 use Rattle.reading.proofs.Accepted.{read_taken, few-blocks}
 use Rattle.reading.proofs.OwnRows.{own-from}
 use Rattle.reading.proofs.Places.{places}
 use Rattle.index.specs.Index.{entries_of}
 use Rattle.slides.specs.declared.Rule.{Rule}
 use Rattle.slides.specs.declared.Slides.{Slides}
-use Rattle.slides.specs.declared.SlideAnswer.{SlideAnswer}
-use Rattle.slides.specs.Axes.{sound}
 use Rattle.slides.specs.Moves.{block_tried, start, followed}
 use Rattle.slides.specs.Answers.{blocks_to}
-use Rattle.slides.specs.Front.{Full, slide_answer}
+use Rattle.slides.specs.Front.{Full}
 use Rattle.slides.proofs.WordWidths.{entry-full}
 use Rattle.slides.proofs.WordTrials.{Sound}
 use Rattle.slides.proofs.BlockTrials.{block-keeps}
-
--- ---- what is handed back
-
--- nothing was refused
-answer-taken : (x : Answer Slides) (a : SlideAnswer) → a ≡ slide_answer x → a.outcome ≡ Clean → x ≡ taken a.slides
-answer-taken (taken s) a e h = rw e
-answer-taken (refused n p) a e h = never (sym (ap (λ b. told b.outcome) e) ∙ ap told h)
-
--- the first refusal is the answer
-answer-refused : (x : Answer Slides) (f : Slides → Answer Slides) (a : SlideAnswer) (n p : ℕ) → a ≡ slide_answer x → told a.outcome ≡ refused n p → a ≡ slide_answer (x >>= f)
-answer-refused (taken s) f a n p e h = never (sym h ∙ ap (λ b. told b.outcome) e)
-answer-refused (refused m q) f a n p e h = e
 
 -- ---- block k of some
 
@@ -67,42 +50,41 @@ module _ (f : Format) (t : List ℕ) (r : Rule) (n : ℕ) where
     pub kept : Sound r s.places
     pub ahead : followed r 0 (blocks_to n (entries_of f t)) start ≡ followed r k (drop k (blocks_to n (entries_of f t))) s
 
-  pub follow-first : {first : ℕ} → first ≡ (get_or (entries_of f t) 0 nowhere).from → sound r.travel start.places ≡ taken tt → Following 0 first start
-  follow-first e s = record { stands = λ l. e; kept = record { long = refl; fit = s }; ahead = refl }
-
-  module _ (facts : Facts f) (accepted : read f t ≡ taken (entries_of f t)) (inside : n < length (entries_of f t)) {k from : ℕ} {s : Slides} (h : Following k from s) where
+  module _ (accepted : read f t ≡ taken (entries_of f t)) (inside : n < length (entries_of f t)) {k from : ℕ} {s : Slides} (h : Following k from s) where
     -- no tape has more rows than the limit, and no more blocks
     pub soon : k ≤ n → k < limit
     soon l = omega (arith, l, inside, few-blocks f t accepted, (clean-passes t (read_taken f t accepted).0).short)
 
-    pub follow-end : n < k → slide_answer (taken s) ≡ slide_answer (followed r 0 (blocks_to n (entries_of f t)) start)
+    pub follow-end : n < k → taken s ≡ followed r 0 (blocks_to n (entries_of f t)) start
     unfolding followed
     follow-end l = rw (h.ahead, none_behind n (entries_of f t) inside k l)
 
-    module _ (l : k ≤ n) (x : EntryAnswer) (e : x ≡ entry_answer (entry_from f t from)) where
+    module _ (l : k ≤ n) where
       own : entry_from f t from ≡ taken (get_or (entries_of f t) k nowhere)
       own = ap (entry_from f t) (h.stands (omega (arith, l, inside))) ∙ own-from f t accepted k (omega (arith, l, inside))
 
-      here : x ≡ entry_answer (taken (get_or (entries_of f t) k nowhere))
-      here = e ∙ ap entry_answer own
+      pub follow-there : (m p : ℕ) → refused m p ≡ entry_from f t from → ⊥
+      follow-there m p e = let z = e ∙ own in cc
 
-      pub full-here : Full x.block
-      full-here = rw here (entry-full f facts t from (get_or (entries_of f t) k nowhere) own)
+      module _ (x : Entry) (e : taken x ≡ entry_from f t from) where
+        here : x ≡ get_or (entries_of f t) k nowhere
+        here = let z = e ∙ own in cc
 
-      module _ (a : SlideAnswer) (q : a ≡ slide_answer (block_tried r k x.block s)) where
-        by-block : followed r 0 (blocks_to n (entries_of f t)) start ≡ (block_tried r k x.block s >>= followed r (suc k) (drop (suc k) (blocks_to n (entries_of f t))))
+        pub full-here : Facts f → Full x.block
+        full-here facts = entry-full f facts t from x (sym e)
+
+        by-block : (a : Answer Slides) → a ≡ block_tried r k x.block s → followed r 0 (blocks_to n (entries_of f t)) start ≡ (a >>= followed r (suc k) (drop (suc k) (blocks_to n (entries_of f t))))
         unfolding followed
-        by-block = h.ahead ∙ rw (block_at n (entries_of f t) inside k l, here)
+        by-block a q = h.ahead ∙ rw (block_at n (entries_of f t) inside k l, sym here, sym q)
 
-        pub follow-refused : (m p : ℕ) → told a.outcome ≡ refused m p → a ≡ slide_answer (followed r 0 (blocks_to n (entries_of f t)) start)
-        follow-refused m p z = answer-refused (block_tried r k x.block s) (followed r (suc k) (drop (suc k) (blocks_to n (entries_of f t)))) a m p q z ∙ sym (ap slide_answer by-block)
+        pub follow-refused : (m p : ℕ) → refused m p ≡ block_tried r k x.block s → refused m p ≡ followed r 0 (blocks_to n (entries_of f t)) start
+        follow-refused m p q = sym (by-block (refused m p) q)
 
-        pub follow-on : a.outcome ≡ Clean → Following (k + 1) x.part.to a.slides
-        follow-on z =
-            let took = answer-taken (block_tried r k x.block s) a q z in
+        pub follow-on : (u : Slides) → taken u ≡ block_tried r k x.block s → Following (k + 1) x.to u
+        follow-on u q =
             let p = places f t (entries_of f t) (read_taken f t accepted).1 nowhere in
             record {
-              stands = λ m. ap (λ b. b.part.to) here ∙ sym (ap (λ i. (get_or (entries_of f t) i nowhere).from) (add-one k) ∙ p.next k (rw (add-one k) at m));
-              kept = block-keeps r k x.block s a.slides h.kept took;
-              ahead = by-block ∙ rw (took, add-one k);
+              stands = λ m. ap (λ (b : Entry). b.to) here ∙ sym (ap (λ i. (get_or (entries_of f t) i nowhere).from) (add-one k) ∙ p.next k (rw (add-one k) at m));
+              kept = block-keeps r k x.block s u h.kept (sym q);
+              ahead = by-block (taken u) q ∙ rw add-one;
             }

@@ -8,7 +8,7 @@ use native.Mathlib.Omega.{arith}
 use lib.Dec.{eqb, ltb}
 use lib.IntN.{ℤ}
 use lib.ListN.{length, get_or, take}
-use borrow.Author.Tests.{ltb-true, lt-ltb, eqb-true, eqb-false, ne_eqb}
+use borrow.Author.Tests.{lt-ltb, ne_eqb}
 use Rattle.rows.specs.Answer.{Answer, taken, refused, ◌>>=◌, ◌>>◌}
 use Rattle.rows.specs.Passes.{Every}
 use Rattle.profile.specs.Answers.{agreed}
@@ -17,14 +17,14 @@ use Rattle.words.specs.declared.Value.TheVariants.{Number, Speed, Dimension}
 use Rattle.words.specs.declared.Word.{Word}
 use Rattle.reading.specs.declared.Block.{Block}
 use Rattle.reading.specs.Record.{words_of, empty_block}
-use Rattle.reading.specs.Parse.{Entry}
+use Rattle.reading.specs.declared.Entry.{Entry}
 use Rattle.reading.specs.Answers.{read, read_under}
 use Rattle.reading.proofs.Programs.{from-taken}
 use Rattle.slides.specs.declared.Travel.{Travel}
 use Rattle.slides.specs.declared.Slides.{Slides}
 use Rattle.slides.specs.declared.Rule.{Rule}
 use Rattle.slides.specs.declared.Motion.{Motion}
-use Rattle.slides.specs.declared.Motion.TheVariants.{Still, Moves}
+use Rattle.std.specs.Prelude.{Option, Some, None}
 use Rattle.slides.specs.Axes.{axes, axis_of, of, within, sound}
 use Rattle.slides.specs.Moves.{motion_by, motion_of, rule_of, placed, moved, leaves, chosen, counts, words_tried, block_tried, followed, start}
 use Rattle.slides.specs.History.{words_moved, block_moved, history, Leaves, FirstLeaving}
@@ -243,7 +243,7 @@ module _ (r : Rule) (a : ℕ) (t u : Travel) (same : Elsewhere a t u) where
   same-leaves increments zs w e = by w.value
     where
       moves : (x : ℤ) (b : Bool) → ltb (axis_of w.letter) (length axes) ≡ b
-          → leaves (under r t) increments zs (cond b (Moves (axis_of w.letter) x) Still) ≡ leaves (under r u) increments zs (cond b (Moves (axis_of w.letter) x) Still)
+          → leaves (under r t) increments zs (cond b (Some (record { axis = axis_of w.letter; value = x })) None) ≡ leaves (under r u) increments zs (cond b (Some (record { axis = axis_of w.letter; value = x })) None)
       moves x true q =
           ap not (same-within (axis_of w.letter) (ne_eqb a (axis_of w.letter) (other-axis a w.letter e q)) (placed r increments zs (axis_of w.letter) x))
       moves x false q = refl
@@ -253,9 +253,9 @@ module _ (r : Rule) (a : ℕ) (t u : Travel) (same : Elsewhere a t u) where
       by (Dimension x) = moves x (ltb (axis_of w.letter) (length axes)) refl
       by (Speed v) = refl
 
-  same-moved : (increments : Bool) (zs : List ℤ) (m : Motion) → moved (under r t) increments zs m ≡ moved (under r u) increments zs m
-  same-moved increments zs Still = refl
-  same-moved increments zs (Moves b x) = refl
+  same-moved : (increments : Bool) (zs : List ℤ) (m : Option Motion) → moved (under r t) increments zs m ≡ moved (under r u) increments zs m
+  same-moved increments zs None = refl
+  same-moved increments zs (Some m) = refl
 
   same-words : (increments : Bool) (k : ℕ) (ws : List Word) → Without (get_or axes a 0) ws → (zs : List ℤ) → words_tried (under r t) increments k ws zs ≡ words_tried (under r u) increments k ws zs
   unfolding words_tried

@@ -5,10 +5,9 @@ pub mod BlockMoves
 pub mod Histories
 pub mod Axis
 pub mod Stepping
-pub mod FarPlaces
+pub mod ReadBack
 pub mod AxisLetters
 pub mod RuleItems
-pub mod Sums
 pub mod WordWidths
 pub mod WordChoices
 pub mod WordMotions

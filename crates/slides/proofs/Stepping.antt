@@ -19,7 +19,7 @@ use Rattle.words.specs.declared.Value.TheVariants.{Number, Speed, Dimension}
 use Rattle.words.specs.declared.Word.{Word}
 use Rattle.reading.specs.declared.Block.{Block}
 use Rattle.reading.specs.Record.{words_of}
-use Rattle.reading.specs.Parse.{Entry}
+use Rattle.reading.specs.declared.Entry.{Entry}
 use Rattle.reading.specs.Answers.{nowhere, read, read_under}
 use Rattle.reading.proofs.Programs.{from-taken, both-taken}
 use Rattle.index.specs.Index.{Indexes, firsts_of}
@@ -27,7 +27,7 @@ use Rattle.index.proofs.WalkedEntries.{found}
 use Rattle.slides.specs.declared.Travel.{Travel}
 use Rattle.slides.specs.declared.Slides.{Slides}
 use Rattle.slides.specs.declared.Rule.{Rule}
-use Rattle.slides.specs.declared.Motion.TheVariants.{Still, Moves}
+use Rattle.std.specs.Prelude.{Some, None}
 use Rattle.slides.specs.Axes.{axes, axis_of, within, sound}
 use Rattle.slides.specs.Moves.{motion_by, motion_of, rule_of, placed, moved, leaves, chosen, counts, counted, words_tried, block_tried, followed, start}
 use Rattle.slides.specs.Answers.{blocks_to, followed_in, slides_after, stepped_in, slides_stepped}
@@ -51,8 +51,8 @@ module _ (r : Rule) where
   word_kept : (increments : Bool) (zs : List ℤ) (w : Word) → Kept r.travel zs → leaves r increments zs (motion_of w) ≡ false → Kept r.travel (moved r increments zs (motion_of w))
   word_kept increments zs w k = by w.value
     where
-      moves : (x : ℤ) (b : Bool) → ltb (axis_of w.letter) (length axes) ≡ b → leaves r increments zs (cond b (Moves (axis_of w.letter) x) Still) ≡ false
-          → Kept r.travel (moved r increments zs (cond b (Moves (axis_of w.letter) x) Still))
+      moves : (x : ℤ) (b : Bool) → ltb (axis_of w.letter) (length axes) ≡ b → leaves r increments zs (cond b (Some (record { axis = axis_of w.letter; value = x })) None) ≡ false
+          → Kept r.travel (moved r increments zs (cond b (Some (record { axis = axis_of w.letter; value = x })) None))
       moves x true q e =
           let a = axis_of w.letter in
           let z = placed r increments zs a x in

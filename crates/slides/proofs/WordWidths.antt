@@ -1,8 +1,8 @@
 -- A block that was read has 22 words at most, and none of its dimensions more than 18 digits.
 use Prim.Native.Nat.{ℕ, zero, suc, ◌-◌, ◌^◌, ◌≤◌, ◌<◌, zero-le}
-use mathlib.Core.Path.{◌≡◌, refl, sym, ap}
+use mathlib.Core.Path.{◌≡◌, refl}
 use mathlib.Core.Bool.{Bool, true, false, cond}
-use mathlib.Core.List.{List, [], ◌∷◌}
+use mathlib.Core.List.{List}
 use native.Mathlib.Nat.{le_of_lt, lt_of_lt_of_le, zero-lt-suc, pow-le-pow_right}
 use native.Mathlib.Omega.{arith}
 use lib.Dec.{ltb}
@@ -26,13 +26,13 @@ use Rattle.parts.specs.declared.Begun.{Begun}
 use Rattle.reading.specs.declared.Block.{Block}
 use Rattle.reading.specs.Record.{blank, block_of, words_of}
 use Rattle.reading.specs.Relation.{Punched, in_full, front, back, Signed, never, plus, minus, plus_stands, minus_stands, plus_missing, Data, number, speed, dimension, Worded, word, Words, done, out, here, Blocked, block}
-use Rattle.reading.specs.Parse.{Entry, entry, block_at}
+use Rattle.reading.specs.declared.Entry.{Entry}
+use Rattle.reading.specs.Parse.{entry, block_at}
 use Rattle.reading.specs.Survey.{entry_from}
 use Rattle.reading.proofs.Outcomes as outcomes
 use Rattle.reading.proofs.Programs.{from-taken}
 use Rattle.reading.proofs.Sound.{block-rows}
 use Rattle.index.specs.Finding.{shifted, up_to, own_entry, entry_by}
-use Rattle.slides.specs.Axes.{farthest}
 use Rattle.slides.specs.Front.{Near, Full}
 
 -- ---- a word

@@ -4,7 +4,7 @@ use Rattle.rows.specs.Answer.{Answer, ◌>>=◌, ◌>>◌}
 use Rattle.shorthand.specs.declared.Format.{Format}
 use Rattle.profile.specs.Answers.{agreed}
 use Rattle.reading.specs.declared.Block.{Block}
-use Rattle.reading.specs.Parse.{Entry}
+use Rattle.reading.specs.declared.Entry.{Entry}
 use Rattle.reading.specs.Answers.{nth, read}
 use Rattle.index.specs.Finding.{entry_by}
 use Rattle.slides.specs.declared.Travel.{Travel}
@@ -17,9 +17,13 @@ use Rattle.slides.specs.Moves.{rule_of, block_tried, start, followed}
 abbrev pub blocks_to : ℕ → List Entry → List Block
 blocks_to n es = map (λ x. x.block) (take (suc n) es)
 
+-- some blocks from zero: 26, and then 27 at the first that leaves its travel
+abbrev pub from_zero : Rule → List Block → Answer Slides
+from_zero r bs = sound r.travel start.places >> followed r 0 bs start
+
 -- behind block n of some blocks: 15, 26, and then 27 at the first block that leaves its travel; nothing behind block n is looked at
 abbrev pub after : Rule → ℕ → List Entry → Answer Slides
-after r n es = nth n es >> (sound r.travel start.places >> followed r 0 (blocks_to n es) start)
+after r n es = nth n es >> from_zero r (blocks_to n es)
 
 unfoldable pub followed_in : Format → Rule → List ℕ → ℕ → Answer Slides
 followed_in f r t n = read f t >>= after r n

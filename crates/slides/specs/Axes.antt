@@ -1,5 +1,5 @@
 -- The axes, and the travel given for each of them (document 02, 11/12; refusal 26).
-use Rattle.std.specs.Prelude.{ℕ, suc, ◌<◌, ◌≡◌, Bool, true, false, ◌||◌, not, ◌&&◌, cond, List, [], ◌∷◌, eqb, ltb, ℤ, pos, nat_abs, length, get_or}
+use Rattle.std.specs.Prelude.{ℕ, suc, ◌<◌, ◌≡◌, Bool, true, false, ◌||◌, not, ◌&&◌, cond, List, [], ◌∷◌, eqb, ltb, ℤ, pos, nat_abs, length, get_or, Option, None, Some}
 use Rattle.std.specs.Int.Signed.{lt_z}
 use Rattle.rows.specs.Answer.{Answer, taken, refused}
 use Rattle.slides.specs.declared.Travel.{Travel}
@@ -16,6 +16,10 @@ place_in c (a ∷ cs) = cond (eqb c a) 0 (suc (place_in c cs))
 -- the axis of a letter
 abbrev pub axis_of : ℕ → ℕ
 axis_of c = place_in c axes
+
+-- or none
+abbrev pub axis_named : ℕ → Option ℕ
+axis_named c = cond (ltb (axis_of c) (length axes)) (Some (axis_of c)) None
 
 -- what an array holds of axis a
 abbrev pub of : List ℤ → ℕ → ℤ

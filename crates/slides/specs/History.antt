@@ -1,13 +1,12 @@
 -- What the history of an axis is, with no travel: once as a fold over the blocks, and once by what its own words say (document 02, 11/12).
-use Rattle.std.specs.Prelude.{ℕ, ◌<◌, ◌≡◌, Bool, true, false, cond, List, [], ◌∷◌, ◌++◌, map, eqb, ℤ, pos, ◌+ℤ◌, length, get_or, take}
+use Rattle.std.specs.Prelude.{ℕ, ◌<◌, ◌≡◌, Bool, true, false, cond, List, [], ◌∷◌, ◌++◌, map, eqb, ℤ, pos, ◌+ℤ◌, length, get_or, take, Option, None, Some}
 use Rattle.words.specs.declared.Word.{Word}
 use Rattle.reading.specs.declared.Block.{Block}
 use Rattle.reading.specs.Record.{words_of, empty_block}
 use Rattle.slides.specs.declared.Slides.{Slides}
 use Rattle.slides.specs.declared.Rule.{Rule}
 use Rattle.slides.specs.declared.Motion.{Motion}
-use Rattle.slides.specs.declared.Motion.TheVariants.{Still, Moves}
-use Rattle.slides.specs.Moves.{motion_of, adds, moved, leaves, chosen, counts, start}
+use Rattle.slides.specs.Moves.{motion_of, adds, moved, leaves, chosen, counts}
 
 -- ---- a fold over the blocks
 
@@ -40,9 +39,9 @@ act_by true x = adding x
 act_by false x = sets x
 
 -- what a word says to axis a
-abbrev pub act_of : Rule → Bool → ℕ → Motion → List Act
-act_of r increments a Still = []
-act_of r increments a (Moves b x) = cond (eqb a b) (act_by (adds r increments b) x ∷ []) []
+abbrev pub act_of : Rule → Bool → ℕ → Option Motion → List Act
+act_of r increments a None = []
+act_of r increments a (Some m) = cond (eqb a m.axis) (act_by (adds r increments m.axis) m.value ∷ []) []
 
 abbrev pub acts_in : Rule → Bool → ℕ → List Word → List Act
 acts_in r increments a [] = []

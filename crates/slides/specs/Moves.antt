@@ -1,5 +1,5 @@
 -- How a block moves the axes: what its words set or add, and whether it counts at all (document 02, 11/12).
-use Rattle.std.specs.Prelude.{ℕ, suc, ◌-◌, Bool, true, false, ◌||◌, ◌&&◌, not, cond, List, [], ◌∷◌, map, eqb, ltb, ℤ, pos, ◌+ℤ◌, length, get_or, set, replicate}
+use Rattle.std.specs.Prelude.{ℕ, suc, ◌-◌, Bool, true, false, ◌||◌, ◌&&◌, not, cond, List, [], ◌∷◌, map, eqb, ltb, ℤ, pos, ◌+ℤ◌, length, get_or, set, replicate, Option, None, Some}
 use Rattle.rows.specs.Answer.{Answer, taken, refused, ◌>>=◌}
 use Rattle.shorthand.specs.declared.Format.{Format}
 use Rattle.shorthand.specs.Layout.{items_of}
@@ -14,7 +14,6 @@ use Rattle.slides.specs.declared.Travel.{Travel}
 use Rattle.slides.specs.declared.Slides.{Slides}
 use Rattle.slides.specs.declared.Rule.{Rule}
 use Rattle.slides.specs.declared.Motion.{Motion}
-use Rattle.slides.specs.declared.Motion.TheVariants.{Still, Moves}
 use Rattle.slides.specs.Axes.{axes, axis_of, of, within}
 
 -- ---- what settles how blocks move the axes
@@ -39,12 +38,12 @@ chosen_by c (Dimension z) old = old
 chosen_by c (Speed s) old = old
 
 -- a word of the axis a, if there is such an axis: a dimension moves it, to or by its value
-abbrev pub motion_by : ℕ → Value → Motion
-motion_by a (Dimension x) = cond (ltb a (length axes)) (Moves a x) Still
-motion_by a (Number n) = Still
-motion_by a (Speed s) = Still
+abbrev pub motion_by : ℕ → Value → Option Motion
+motion_by a (Dimension x) = cond (ltb a (length axes)) (Some (record { axis = a; value = x })) None
+motion_by a (Number n) = None
+motion_by a (Speed s) = None
 
-abbrev pub motion_of : Word → Motion
+abbrev pub motion_of : Word → Option Motion
 motion_of w = motion_by (axis_of w.letter) w.value
 
 -- whether a word of axis a adds: where G90 and G91 choose, by what they chose; elsewhere by its item's mark
@@ -61,14 +60,14 @@ abbrev pub placed : Rule → Bool → List ℤ → ℕ → ℤ → ℤ
 placed r increments zs a x = put (adds r increments a) (of zs a) x
 
 -- the places behind a word: that of its axis alone is another
-abbrev pub moved : Rule → Bool → List ℤ → Motion → List ℤ
-moved r increments zs Still = zs
-moved r increments zs (Moves a x) = set zs a (placed r increments zs a x)
+abbrev pub moved : Rule → Bool → List ℤ → Option Motion → List ℤ
+moved r increments zs None = zs
+moved r increments zs (Some m) = set zs m.axis (placed r increments zs m.axis m.value)
 
 -- a word puts its axis outside the travel; of other axes nothing is asked
-abbrev pub leaves : Rule → Bool → List ℤ → Motion → Bool
-leaves r increments zs Still = false
-leaves r increments zs (Moves a x) = not (within r.travel a (placed r increments zs a x))
+abbrev pub leaves : Rule → Bool → List ℤ → Option Motion → Bool
+leaves r increments zs None = false
+leaves r increments zs (Some m) = not (within r.travel m.axis (placed r increments zs m.axis m.value))
 
 -- ---- one block
 

@@ -1,10 +1,10 @@
 // The axes: their letters in dimension order, and whether all of them can be followed.
 ghost use Rattle.std.specs.Prelude.{◌≡◌};
 ghost use Rattle.rows.specs.Answer.{told};
-ghost use Rattle.slides.specs.Axes.{axis_of, far, unsound, sound};
+ghost use Rattle.slides.specs.Axes.{axis_named, far, unsound, sound};
 
 use crate::Travel;
-use rows::{Checked, Refusal};
+use rows::{Cause, Refusal};
 
 // X Y Z U V W P Q R A B C D E; I, J and K are not positions.
 pub const AXES: [u8; 14] = [88, 89, 90, 85, 86, 87, 80, 81, 82, 65, 66, 67, 68, 69];
@@ -12,18 +12,16 @@ pub const AXES: [u8; 14] = [88, 89, 90, 85, 86, 87, 80, 81, 82, 65, 66, 67, 68, 
 // One million million million.
 const FARTHEST: i64 = 1000000000000000000;
 
-// The axis of a letter, or 14.
-pub fn axis_of(letter: u8) -> usize
-    ensures { result ≡ axis_of letter }
+// The axis of a letter, if it has one.
+pub fn axis_of(letter: u8) -> Option<usize>
+    ensures { result ≡ axis_named letter }
 {
-    let mut a: usize = 0;
-    while a < 14 {
-        if AXES[a] == letter {
-            return a;
+    for (a, axis) in AXES.iter().enumerate() {
+        if *axis == letter {
+            return Some(a);
         }
-        a += 1;
     }
-    14
+    None
 }
 
 // Beyond one million million million either way.
@@ -40,18 +38,13 @@ fn is_unsound(low: i64, high: i64, place: i64) -> bool
 }
 
 // Whether every axis can be followed, used or not.
-pub fn check_travel(travel: Travel, places: [i64; 14]) -> Checked
+pub fn check_travel(travel: Travel, places: [i64; 14]) -> Result<(), Refusal>
     ensures { told result ≡ sound travel places }
 {
-    let mut a: usize = 0;
-    while a < 14 {
+    for (a, letter) in AXES.iter().enumerate() {
         if is_unsound(travel.low[a], travel.high[a], places[a]) {
-            return Checked::Refused(Refusal {
-                number: 26,
-                place: AXES[a] as usize,
-            });
+            return Err(Cause::Travel.at(usize::from(*letter)));
         }
-        a += 1;
     }
-    Checked::Clean
+    Ok(())
 }

@@ -2,8 +2,7 @@
 #![tactic(auto)]
 
 ghost use Rattle.std.specs.Prelude.{◌≡◌};
-ghost use Rattle.rows.specs.Answer.{told, void, value_or};
-ghost use Rattle.slides.specs.Moves.{start};
+ghost use Rattle.rows.specs.Answer.{told};
 ghost use Rattle.slides.specs.Answers.{slides_after, slides_stepped};
 
 pub mod axes;
@@ -12,11 +11,12 @@ mod moves;
 mod rules;
 
 use following::{follow_under, step_under};
-use moves::no_slides;
-use rows::Checked;
+use profile::Terms;
+use rows::Refusal;
 use rules::rule_of;
 
 // How far each axis may go, in dimension order: X Y Z U V W P Q R A B C D E.
+// Stays so: two arrays beside the places: public structs, whose low, high and places the theorems name (sound, FirstBad, Elsewhere, history)
 #[derive(Clone, Copy)]
 pub struct Travel {
     pub low: [i64; 14],
@@ -30,13 +30,6 @@ pub struct Slides {
     pub increments: bool,
 }
 
-// Where the axes stand, or why that can't be said.
-#[derive(Clone, Copy)]
-pub struct SlideAnswer {
-    pub outcome: Checked,
-    pub slides: Slides,
-}
-
 // What settles how blocks move the axes: whether G90 and G91 choose, which axes have "D" items, whether blocks with "/" count, and the travel.
 #[derive(Clone, Copy)]
 pub struct Rule {
@@ -46,71 +39,43 @@ pub struct Rule {
     pub travel: Travel,
 }
 
-// What a word does: nothing, or it moves an axis to or by a value.
+// What a word does that moves an axis: to or by a value.
 #[derive(Clone, Copy)]
-pub enum Motion {
-    Still,
-    Moves(usize, i64),
-}
-
-// Where a word puts its axis.
-#[derive(Clone, Copy)]
-pub enum Put {
-    At(i64),
-    Outside,
-}
-
-// The places behind some words, all within their travel; or not.
-#[derive(Clone, Copy)]
-pub struct Moved {
-    pub inside: bool,
-    pub places: [i64; 14],
+pub struct Motion {
+    pub axis: usize,
+    pub value: i64,
 }
 
 // Where each axis stands behind block n, from zero; with slashed, blocks with "/" count.
+#[tactic(auto, unfolding(crate::specs::Answers::slides_after))]
 pub fn follow(
-    edition: u32,
-    text: &[u8],
-    profile: &[u8],
+    terms: &Terms<'_>,
     tape: &[u8],
     n: usize,
     travel: Travel,
     slashed: bool,
-) -> SlideAnswer
-    ensures outcome { told result.outcome ≡ void (slides_after edition text.now profile.now tape.now n travel slashed) }
-    ensures slides { result.slides ≡ value_or start (slides_after edition text.now profile.now tape.now n travel slashed) }
+) -> Result<Slides, Refusal>
+    ensures { told result ≡ slides_after terms.now.edition terms.now.shorthand.now terms.now.profile.now tape.now n travel slashed }
 {
-    let parsed = profile::parse(edition, text, profile);
-    let format = parsed.format;
-    let outcome = parsed.outcome;
-    if let Checked::Refused(r) = outcome {
-        return no_slides(r.number, r.place);
-    }
-    let rule = rule_of(format, profile, travel, slashed);
-    follow_under(tape, format, rule, n)
+    let usable = profile::parse(terms)?;
+    let rule = rule_of(usable, terms.profile, travel, slashed);
+    follow_under(tape, usable, rule, n)
 }
 
 // Where each axis stands behind block n, from where it stood before that block; the block is found by the first rows of all blocks.
+#[tactic(auto, unfolding(crate::specs::Answers::slides_stepped))]
 pub fn step(
-    edition: u32,
-    text: &[u8],
-    profile: &[u8],
+    terms: &Terms<'_>,
     tape: &[u8],
     firsts: &[usize],
     n: usize,
     slides: Slides,
     travel: Travel,
     slashed: bool,
-) -> SlideAnswer
-    ensures outcome { told result.outcome ≡ void (slides_stepped edition text.now profile.now tape.now firsts.now n slides travel slashed) }
-    ensures slides { result.slides ≡ value_or start (slides_stepped edition text.now profile.now tape.now firsts.now n slides travel slashed) }
+) -> Result<Slides, Refusal>
+    ensures { told result ≡ slides_stepped terms.now.edition terms.now.shorthand.now terms.now.profile.now tape.now firsts.now n slides travel slashed }
 {
-    let parsed = profile::parse(edition, text, profile);
-    let format = parsed.format;
-    let outcome = parsed.outcome;
-    if let Checked::Refused(r) = outcome {
-        return no_slides(r.number, r.place);
-    }
-    let rule = rule_of(format, profile, travel, slashed);
-    step_under(tape, format, rule, firsts, n, slides)
+    let usable = profile::parse(terms)?;
+    let rule = rule_of(usable, terms.profile, travel, slashed);
+    step_under(tape, usable, rule, firsts, n, slides)
 }

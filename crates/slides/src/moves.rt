@@ -1,15 +1,15 @@
 // How one block moves the axes.
-ghost use Rattle.std.specs.Prelude.{◌≡◌, cond, ℕ, ◌≤◌, nat_abs};
-ghost use Rattle.rows.specs.Answer.{taken, refused};
+ghost use Rattle.std.specs.Prelude.{◌≡◌, cond, ◌≤◌, nat_abs};
+ghost use Rattle.rows.specs.Answer.{taken, told};
 ghost use Rattle.reading.specs.Record.{words_of};
 ghost use Rattle.slides.specs.Axes.{farthest, sound};
 ghost use Rattle.slides.specs.Moves.{chosen_by, chosen_in, motion_of, put, words_tried, block_tried};
-ghost use Rattle.slides.specs.Front.{Full, put_within, moved_told, slide_answer};
+ghost use Rattle.slides.specs.Front.{Full, put_within};
 
 use crate::axes::axis_of;
-use crate::{Motion, Moved, Put, Rule, SlideAnswer, Slides};
+use crate::{Motion, Rule, Slides};
 use reading::Block;
-use rows::{Checked, Refusal};
+use rows::{Cause, Refusal};
 use words::{Value, Word};
 
 // Zero on every axis, and absolute.
@@ -22,16 +22,9 @@ pub(crate) const START: Slides = Slides {
 fn chosen_by(word: Word, old: bool) -> bool
     ensures { result ≡ chosen_by word.letter word.value old }
 {
-    let value = word.value;
-    let Value::Number(n) = value else {
-        return old;
-    };
-    if word.letter != b'G' {
-        return old;
-    }
-    match n {
-        90 => false,
-        91 => true,
+    match (word.letter, word.value) {
+        (b'G', Value::Number(90)) => false,
+        (b'G', Value::Number(91)) => true,
         _ => old,
     }
 }
@@ -45,45 +38,36 @@ fn choose(chooses: bool, block: Block, old: bool) -> bool
         return old;
     }
     let mut chosen = old;
-    let mut i: usize = 0;
-    while i < block.count {
-        let word = block.words[i];
-        chosen = chosen_by(word, chosen);
-        i += 1;
+    for word in &block.words[..block.count] {
+        chosen = chosen_by(*word, chosen);
     }
     chosen
 }
 
-// The axis that a word moves.
-fn motion_of(word: Word) -> Motion
+// The axis that a word moves, and the value to or by which; or none, and it moves nothing.
+fn motion_of(word: Word) -> Option<Motion>
     ensures { result ≡ motion_of word }
 {
-    let value = word.value;
-    let Value::Dimension(x) = value else {
-        return Motion::Still;
+    let Value::Dimension(value) = word.value else {
+        return None;
     };
-    let a = axis_of(word.letter);
-    if a < 14 {
-        return Motion::Moves(a, x);
-    }
-    Motion::Still
+    let axis = axis_of(word.letter)?;
+    Some(Motion { axis, value })
 }
 
-// A place within a travel, or outside it.
-fn hold(to: i64, low: i64, high: i64) -> Put
+// A place within a travel, or none outside it.
+fn hold(to: i64, low: i64, high: i64) -> Option<i64>
     ensures { result ≡ put_within low high to }
 {
-    if to < low {
-        return Put::Outside;
+    if (low..=high).contains(&to) {
+        Some(to)
+    } else {
+        None
     }
-    if high < to {
-        return Put::Outside;
-    }
-    Put::At(to)
 }
 
 // A value set or added, within a travel. No sum overflows: place and value are one million million million at most.
-fn put_axis(adds: bool, z: i64, x: i64, low: i64, high: i64) -> Put
+fn put_axis(adds: bool, z: i64, x: i64, low: i64, high: i64) -> Option<i64>
     requires { (nat_abs z ≤ farthest) × (nat_abs x ≤ farthest) }
     ensures { result ≡ put_within low high (put adds z x) }
 {
@@ -100,67 +84,49 @@ fn is_adding(chooses: bool, increments: bool, delta: bool) -> bool
     if chooses { increments } else { delta }
 }
 
-// The words of a block, one behind another.
-fn move_words(rule: Rule, increments: bool, block: Block, places: [i64; 14]) -> Moved
+// The words of block k, one behind another.
+fn move_words(
+    rule: Rule,
+    increments: bool,
+    k: usize,
+    block: Block,
+    places: [i64; 14],
+) -> Result<[i64; 14], Refusal>
     requires full { Full block }
     requires places_value { sound rule.travel places ≡ taken tt }
-    ensures { (k : ℕ) → moved_told k result ≡ words_tried rule increments k (words_of block) places }
+    ensures { told result ≡ words_tried rule increments k (words_of block) places }
 {
     let travel = rule.travel;
     let mut at = places;
-    let mut i: usize = 0;
-    while i < block.count {
-        let word = block.words[i];
-        i += 1;
-        let Motion::Moves(a, x) = motion_of(word) else {
+    for word in &block.words[..block.count] {
+        let Some(motion) = motion_of(*word) else {
             continue;
         };
+        let a = motion.axis;
         let adds = is_adding(rule.chooses, increments, rule.deltas[a]);
-        let Put::At(to) = put_axis(adds, at[a], x, travel.low[a], travel.high[a]) else {
-            return Moved {
-                inside: false,
-                places: at,
-            };
+        let Some(to) = put_axis(adds, at[a], motion.value, travel.low[a], travel.high[a]) else {
+            return Err(Cause::Outside.at(k));
         };
         at[a] = to;
     }
-    Moved {
-        inside: true,
-        places: at,
-    }
-}
-
-// What a refusal hands back: zero on every axis.
-pub(crate) fn no_slides(number: u32, place: usize) -> SlideAnswer
-    ensures { result ≡ slide_answer (refused number place) }
-{
-    SlideAnswer {
-        outcome: Checked::Refused(Refusal { number, place }),
-        slides: START,
-    }
+    Ok(at)
 }
 
 // Block k; one that does not count is passed by wholly.
-pub(crate) fn move_block(rule: Rule, k: usize, block: Block, slides: Slides) -> SlideAnswer
+pub(crate) fn move_block(
+    rule: Rule,
+    k: usize,
+    block: Block,
+    slides: Slides,
+) -> Result<Slides, Refusal>
     requires full { Full block }
     requires places_value { sound rule.travel slides.places ≡ taken tt }
-    ensures { result ≡ slide_answer (block_tried rule k block slides) }
+    ensures { told result ≡ block_tried rule k block slides }
 {
-    if block.skip & !rule.slashed {
-        return SlideAnswer {
-            outcome: Checked::Clean,
-            slides,
-        };
+    if block.skip && !rule.slashed {
+        return Ok(slides);
     }
     let increments = choose(rule.chooses, block, slides.increments);
-    let before = slides.places;
-    let moved = move_words(rule, increments, block, before);
-    if !moved.inside {
-        return no_slides(27, k);
-    }
-    let places = moved.places;
-    SlideAnswer {
-        outcome: Checked::Clean,
-        slides: Slides { places, increments },
-    }
+    let places = move_words(rule, increments, k, block, slides.places)?;
+    Ok(Slides { places, increments })
 }

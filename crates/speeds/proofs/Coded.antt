@@ -10,7 +10,7 @@ use lib.Dec.{eqb, lit<}
 use lib.Arith.{digits_div, digits_mod, digits_lt}
 use lib.Pow.{pow-add}
 use Rattle.rows.specs.Answer.{taken}
-use Rattle.speeds.specs.Meaning.{other_digits, meaning, speed_for}
+use Rattle.speeds.specs.Meaning.{meaning, speed_for}
 use Rattle.speeds.specs.Rounding.{Significant, past, rounded}
 use Rattle.speeds.specs.Coding.{written, code_for}
 use Rattle.speeds.specs.Preferred.{rate_of, stop_code, rapid_code, preferred_speed}

@@ -1,6 +1,6 @@
 -- How many digits of a number stand past the first s: the one count p for which the number lies between powers of ten.
-use Prim.Native.Nat.{ℕ, zero, suc, ◌+◌, ◌*◌, ◌/◌, ◌^◌, ◌≤◌, ◌<◌}
-use mathlib.Core.Path.{◌≡◌, refl}
+use Prim.Native.Nat.{ℕ, zero, suc, ◌+◌, ◌-◌, ◌*◌, ◌/◌, ◌^◌, ◌≤◌, ◌<◌}
+use mathlib.Core.Path.{◌≡◌, refl, sym}
 use mathlib.Core.Bool.{Bool, true, false}
 use mathlib.Core.Logic.{⊎_elim}
 use native.Mathlib.Nat.{pow-succ', add-suc, add-zero, le_antisymm, eq-zero-or-pos}
@@ -9,7 +9,7 @@ use native.Mathlib.Omega.{arith}
 use borrow.Author.Tests.{ltb-true, ltb-false}
 use lib.Dec.{ltb}
 use Rattle.speeds.specs.Rounding.{past_within, past}
-use Rattle.speeds.proofs.Tens.{ten-positive, ten-times, ten-below}
+use Rattle.speeds.proofs.Tens.{ten-positive, ten-grows, ten-times, ten-below}
 
 -- v has s + p digits, or fewer where p is zero
 pub record Past (s v p : ℕ) : Type 0 where
@@ -67,3 +67,14 @@ past-most s v n l h =
 -- past four digits a speed has at most nine
 pub past-digit : (v : ℕ) → v < 10 ^ 13 → past 4 v ≤ 9
 past-digit v h = omega (arith, past-most 4 v 13 (omega arith) h)
+
+-- v lies between powers of ten: it has n + 1 digits
+pub past_digits : (s v n p : ℕ) → 10 ^ n ≤ v → v < 10 * 10 ^ n → p ≡ n + 1 - s → p ≡ past s v
+past_digits s v n p l u e =
+    sym (past_is s v p (record { under = omega (arith, top, ten-grows {i = n + 1} {j = s + p} (omega arith)); over = λ h. over h }))
+  where
+    top : 10 ^ (n + 1) ≡ 10 * 10 ^ n
+    top = let h : n + 1 ≡ suc n = omega arith in rw (h, pow-succ' 10 n)
+
+    over : 0 < p → 10 ^ (s + p) ≤ 10 * v
+    over h = let same : s + p ≡ n + 1 = omega arith in rw (same, top) (omega arith)

@@ -1,11 +1,11 @@
 -- From a code to its speed and back, and from a speed to its code and back.
-use Prim.Native.Nat.{ℕ, ◌-◌, ◌^◌, ◌≤◌, ◌<◌}
-use mathlib.Core.Path.{◌≡◌, sym, ap, ◌∙◌}
+use Prim.Native.Nat.{ℕ, ◌-◌, ◌≤◌}
+use mathlib.Core.Path.{◌≡◌, sym, ◌∙◌}
 use mathlib.Core.Bool.{◌&&◌}
 use lib.Dec.{leb}
 use Rattle.rows.specs.Answer.{taken}
 use Rattle.speeds.specs.declared.Speed.{Speed}
-use Rattle.speeds.specs.declared.Speed.TheVariants.{Stop, Rapid, Rate}
+use Rattle.speeds.specs.declared.Speed.TheVariants.{Rate}
 use Rattle.speeds.specs.Meaning.{speed_for}
 use Rattle.speeds.specs.Rounding.{rounded}
 use Rattle.speeds.specs.Preferred.{nearest_code, NearestCode, least_rate, most_rate}

@@ -36,7 +36,7 @@ digit-tens h l = mul-le-mul h (ten-grows l)
 
 -- the table of powers, and what it holds
 abbrev pub powers : List ℕ
-powers = tab (λ (m : ℕ). 10 ^ m) 0 14
+powers = tab (λ (m : ℕ). 10 ^ m) 0 19
 
-pub power_at : (n : ℕ) → n < 14 → get_or powers n 0 ≡ 10 ^ n
-power_at n h = tab-at (λ (m : ℕ). 10 ^ m) 14 n 0 h
+pub power_at : (n : ℕ) → n < 19 → get_or powers n 0 ≡ 10 ^ n
+power_at n h = tab-at (λ (m : ℕ). 10 ^ m) 19 n 0 h

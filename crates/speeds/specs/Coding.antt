@@ -1,16 +1,11 @@
 -- A speed's code (documents 01, "Coded speeds", refusals 20 and 21, and 02, 4/12).
-use Rattle.std.specs.Prelude.{ℕ, ◌+◌, ◌-◌, ◌*◌, ◌/◌, ◌^◌, Bool, true, false, ◌&&◌, cond, eqb, leb, ltb}
-use Rattle.rows.specs.Answer.{Answer, taken, refused, refusal}
+use Rattle.std.specs.Prelude.{ℕ, ◌+◌, ◌-◌, ◌*◌, ◌/◌, ◌^◌, Bool, true, false, ◌&&◌, cond, eqb, leb, ltb, Option, Some, None}
+use Rattle.rows.specs.Answer.{Answer, taken, refused}
 use Rattle.speeds.specs.Meaning.{code_length, is_preferred, speed_for}
 use Rattle.speeds.specs.Rounding.{past, rounded}
 use Rattle.speeds.specs.Preferred.{preferred_code}
 use Rattle.speeds.specs.declared.Speed.{Speed}
 use Rattle.speeds.specs.declared.Speed.TheVariants.{Stop, Rapid, Rate}
-use Rattle.speeds.specs.declared.SpeedRead.{SpeedRead}
-use Rattle.speeds.specs.declared.Code.{Code}
-use Rattle.speeds.specs.declared.Code.TheVariants.{Number}
-use Rattle.speeds.specs.declared.Exact.{Exact}
-use Rattle.speeds.specs.declared.Exact.TheVariants.{Inexact, Means}
 
 -- the first digit of a rate's code: how many digits of the rate stand past four
 abbrev pub power : ℕ → ℕ
@@ -54,19 +49,10 @@ abbrev pub reads : Speed → Answer Speed → Bool
 reads s (taken t) = same_speed t s
 reads s (refused n p) = false
 
-abbrev pub if_means : ℕ → Speed → Answer ℕ → Exact
-if_means k s (taken c) = cond (reads s (speed_for k c)) (Means c) Inexact
-if_means k s (refused n p) = Inexact
+abbrev pub if_means : ℕ → Speed → Answer ℕ → Option ℕ
+if_means k s (taken c) = cond (reads s (speed_for k c)) (Some c) None
+if_means k s (refused n p) = None
 
 -- the code of k digits that means exactly the speed s, where it has one
-unfoldable pub exact_for : ℕ → Speed → Exact
+unfoldable pub exact_for : ℕ → Speed → Option ℕ
 exact_for k s = if_means k s (code_for k s)
-
--- what each case of `SpeedRead` and of `Code` says
-abbrev pub speed_told : SpeedRead → Answer Speed
-speed_told (SpeedRead.Is s) = taken s
-speed_told (SpeedRead.Refused r) = refusal r
-
-abbrev pub code_told : Code → Answer ℕ
-code_told (Number c) = taken c
-code_told (Code.Refused r) = refusal r

@@ -2,9 +2,11 @@
 ghost use Rattle.std.specs.Prelude.{◌≡◌, ◌≤◌};
 ghost use Rattle.speeds.specs.Preferred.{rates, last_code, rate_of, nearest_code, most_rate};
 ghost use Rattle.speeds.specs.Meaning.{speed_for};
-ghost use Rattle.speeds.specs.Coding.{speed_told, code_told, code_for};
+ghost use Rattle.rows.specs.Answer.{told};
+ghost use Rattle.speeds.specs.Coding.{code_for};
 
-use crate::{Code, NOT_CODABLE, Speed, SpeedRead, WRONG_LENGTH};
+use crate::{NOT_CODABLE, Speed, WRONG_LENGTH};
+use rows::Refusal;
 
 // The rates of the codes 01 to 98 in ten-millionths.
 const RATES: [u64; 98] = [
@@ -130,43 +132,41 @@ fn nearest_code(rate: u64) -> usize
     ensures { result ≡ nearest_code rate }
 {
     let rates = lay_out();
-    let mut at = 0;
-    while at < 97 {
+    for at in 0..97 {
         if 2 * rate < rates[at] + rates[at + 1] {
             return at + 1;
         }
-        at += 1;
     }
     98
 }
 
 // 00 is stop, 99 rapid, every other code of two digits a rate.
-pub(crate) fn speed_of(code: u64) -> SpeedRead
-    ensures { speed_told result ≡ speed_for 2 code }
+pub(crate) fn speed_of(code: u64) -> Result<Speed, Refusal>
+    ensures { told result ≡ speed_for 2 code }
 {
     match code {
-        0 => SpeedRead::Is(Speed::Stop),
-        1..=98 => SpeedRead::Is(Speed::Rate(rate_of(code as usize))),
-        99 => SpeedRead::Is(Speed::Rapid),
-        _ => SpeedRead::Refused(WRONG_LENGTH),
+        0 => Ok(Speed::Stop),
+        1..=98 => Ok(Speed::Rate(rate_of(code as usize))),
+        99 => Ok(Speed::Rapid),
+        _ => Err(WRONG_LENGTH),
     }
 }
 
 // The nearest rate's code; a rate under the table's first or over its last is refused.
-pub(crate) fn code_of(speed: Speed) -> Code
-    ensures { code_told result ≡ code_for 2 speed }
+pub(crate) fn code_of(speed: Speed) -> Result<u64, Refusal>
+    ensures { told result ≡ code_for 2 speed }
 {
     match speed {
-        Speed::Stop => Code::Number(0),
-        Speed::Rapid => Code::Number(99),
+        Speed::Stop => Ok(0),
+        Speed::Rapid => Ok(99),
         Speed::Rate(rate) => {
             if rate < rate_of(1) {
-                return Code::Refused(NOT_CODABLE);
+                return Err(NOT_CODABLE);
             }
             if rate_of(98) < rate {
-                return Code::Refused(NOT_CODABLE);
+                return Err(NOT_CODABLE);
             }
-            Code::Number(nearest_code(rate) as u64)
+            Ok(nearest_code(rate) as u64)
         }
     }
 }

@@ -1,4 +1,4 @@
--- What each case of an answer says, over the kept rows that a fetched row stands for.
+-- What a cursor and a step say, over the kept rows that a fetched row stands for.
 use Rattle.std.specs.Prelude.{ℕ, List}
 use Rattle.words.specs.Front.{rows_at}
 use Rattle.steps.specs.declared.Cursor.{Cursor}

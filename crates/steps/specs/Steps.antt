@@ -1,5 +1,5 @@
 -- One step of a walk over the blocks of a tape: what stands next from where the walk stands, and where it is left.
-use Rattle.std.specs.Prelude.{ℕ, ◌+◌, ◌≤◌, ◌<◌, ◌≡◌, Bool, false, not, cond, List, [], ◌∷◌, ltb, length}
+use Rattle.std.specs.Prelude.{ℕ, ◌+◌, ◌<◌, ◌≡◌, Bool, false, not, cond, List, [], ◌∷◌, ltb}
 use Rattle.rows.specs.Answer.{Answer, taken, refused}
 use Rattle.rows.specs.Kept.{KeptRow}
 use Rattle.shorthand.specs.declared.Item.{Item}
@@ -46,46 +46,40 @@ before items empty k rs = cond (ltb k items) (record { stage = Before; item = k;
 abbrev pub going : Rules → List ℕ → Bool → ℕ → List KeptRow → Spot
 going u leads empty k rs = before u.items empty (due_at leads u.dots k rs) rs
 
--- a refusal leaves the walk where it was
-abbrev pub halted : Spot → ℕ → ℕ → Moved
-halted s n p = record { event = Event.Refused (record { number = n; place = p }); spot = s }
-
-abbrev pub opens : (Bool → ℕ → List KeptRow → Spot) → Spot → Answer (Behind Begun) → Moved
-opens on s (taken b) = record { event = Opened b.value; spot = on (not b.value.numbered) 0 b.rest }
-opens on s (refused n p) = halted s n p
+abbrev pub opens : (Bool → ℕ → List KeptRow → Spot) → Answer (Behind Begun) → Answer Moved
+opens on (taken b) = taken (record { event = Opened b.value; spot = on (not b.value.numbered) 0 b.rest })
+opens on (refused n p) = refused n p
 
 -- between two blocks: no rows, or the start of the next
-abbrev pub open_step : ℕ → Rules → List ℕ → Spot → List KeptRow → Moved
-open_step len u leads s [] = record { event = Finished; spot = s }
-open_step len u leads s (r ∷ rs) = opens (going u leads) s (start_at len u.digits (bare_by u leads) (r ∷ rs))
+abbrev pub open_step : ℕ → Rules → List ℕ → Spot → List KeptRow → Answer Moved
+open_step len u leads s [] = taken (record { event = Finished; spot = s })
+open_step len u leads s (r ∷ rs) = opens (going u leads) (start_at len u.digits (bare_by u leads) (r ∷ rs))
 
-abbrev pub reads : (Bool → ℕ → List KeptRow → Spot) → Spot → Answer (Behind Word) → Moved
-reads on s (taken w) = record { event = Read w.value; spot = on false (s.item + 1) w.rest }
-reads on s (refused n p) = halted s n p
+abbrev pub reads : (Bool → ℕ → List KeptRow → Spot) → Spot → Answer (Behind Word) → Answer Moved
+reads on s (taken w) = taken (record { event = Read w.value; spot = on false (s.item + 1) w.rest })
+reads on s (refused n p) = refused n p
 
 -- before an item, by how it stands; where it can't be reached, all that follow are left out with it
-abbrev pub takes : ℕ → Item → (Bool → ℕ → List KeptRow → Spot) → Spot → Standing → Moved
-takes len it on s stops = record { event = Out; spot = ending s.empty s.rows }
-takes len it on s (out r) = record { event = Out; spot = on s.empty (s.item + 1) r }
+abbrev pub takes : ℕ → Item → (Bool → ℕ → List KeptRow → Spot) → Spot → Standing → Answer Moved
+takes len it on s stops = taken (record { event = Out; spot = ending s.empty s.rows })
+takes len it on s (out r) = taken (record { event = Out; spot = on s.empty (s.item + 1) r })
 takes len it on s (at a r) = reads on s (word_at len it a r)
 
 -- behind the items: an end
-abbrev pub closes_by : Spot → Answer (Behind ℕ) → Moved
-closes_by s (taken e) = record { event = Closed e.value; spot = between e.rest }
-closes_by s (refused n p) = halted s n p
+abbrev pub closes_by : Answer (Behind ℕ) → Answer Moved
+closes_by (taken e) = taken (record { event = Closed e.value; spot = between e.rest })
+closes_by (refused n p) = refused n p
 
-abbrev pub step_by : ℕ → Rules → List ℕ → Item → Spot → Stage → Moved
+abbrev pub step_by : ℕ → Rules → List ℕ → Item → Spot → Stage → Answer Moved
 step_by len u leads it s Between = open_step len u leads s s.rows
 step_by len u leads it s Before = takes len it (going u leads) s (standing (way_by u.dots u.addresses) it.letter s.rows)
-step_by len u leads it s Ending = closes_by s (close_at len s.empty s.rows)
+step_by len u leads it s Ending = closes_by (close_at len s.empty s.rows)
 
 -- one step of a tape of so many rows, under a Format's rules and where its letters lead, with the item there
-unfoldable pub step_at : ℕ → Rules → List ℕ → Item → Spot → Moved
+unfoldable pub step_at : ℕ → Rules → List ℕ → Item → Spot → Answer Moved
 step_at len u leads it s = step_by len u leads it s s.stage
 
 -- what a step asks for: all of it holds of a Format that the shorthand gives
-pub record Ready (u : Rules) (leads : List ℕ) (it : Item) (c : Cursor) : Type 0 where
-  pub digits : u.digits ≤ 18
-  pub table : 256 ≡ length leads
+pub record Ready (it : Item) (c : Cursor) : Type 0 where
   pub within : c.item < 22
   pub widths : c.stage ≡ Before → Widths it.kind

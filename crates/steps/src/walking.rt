@@ -1,5 +1,6 @@
 // One step of a walk over the blocks of a tape: the grammar of a block, in one place.
 ghost use Rattle.std.specs.Prelude.{◌≡◌, List, ℕ, ◌≤◌, ◌<◌, length};
+ghost use Rattle.rows.specs.Answer.{told_by};
 ghost use Rattle.shorthand.specs.Facts.{Widths};
 ghost use Rattle.shorthand.specs.Layout.{way_by};
 ghost use Rattle.words.specs.Front.{rows_at};
@@ -10,21 +11,19 @@ ghost use Rattle.steps.specs.Front.{spot_told, step_told};
 
 use crate::{Cursor, Event, Stage, Step};
 use parts::ends::find_end;
-use parts::items::{due_item, reach_item};
+use parts::items::reach_item;
 use parts::starts::read_start;
-use parts::{EndFound, Reach, Rules, StartRead};
-use rows::Next;
+use parts::{Guide, Reach};
+use rows::{Kept, Refusal};
 use shorthand::Item;
-use words::WordRead;
-use words::datum::{read_word, word_refusal};
+use words::datum::read_word;
 
 // Before the item that is due from item k on, or behind the last of them.
-fn go_on(rules: Rules, leads: &[u8], empty: bool, k: usize, front: Next) -> Cursor
-    requires { 256 ≡ length leads.now }
-    ensures { (t : List ℕ) → spot_told t result ≡ going rules leads.now empty k (rows_at t front) }
+fn go_on(guide: &Guide, empty: bool, k: usize, front: Option<Kept>) -> Cursor
+    ensures { (t : List ℕ) → spot_told t result ≡ going guide.now.rules guide.now.leads empty k (rows_at t front) }
 {
-    let due = due_item(leads, rules.dots, k, front);
-    if due < rules.items {
+    let due = guide.due(k, front);
+    if due < guide.rules.items {
         Cursor {
             stage: Stage::Before,
             item: due,
@@ -42,43 +41,31 @@ fn go_on(rules: Rules, leads: &[u8], empty: bool, k: usize, front: Next) -> Curs
 }
 
 // Between two blocks: nothing is left, or the start of the next.
-fn open_block(tape: &[u8], rules: Rules, leads: &[u8], cursor: Cursor) -> Step
-    requires { (rules.digits ≤ 18) × (256 ≡ length leads.now) }
-    ensures { step_told tape.now result ≡ open_step (length tape.now) rules leads.now (spot_told tape.now cursor) (rows_at tape.now cursor.front) }
+fn open_block(tape: &[u8], guide: &Guide, cursor: Cursor) -> Result<Step, Refusal>
+    ensures { told_by (step_told tape.now) result ≡ open_step (length tape.now) guide.now.rules guide.now.leads (spot_told tape.now cursor) (rows_at tape.now cursor.front) }
 {
-    let front = cursor.front;
-    let Next::Row {
-        character: _,
-        place: _,
-        after: _,
-    } = front
-    else {
-        return Step {
+    if cursor.front.is_none() {
+        return Ok(Step {
             event: Event::Finished,
             cursor,
-        };
-    };
-    match read_start(tape, rules, leads, front) {
-        StartRead::Is(begun, next) => Step {
-            event: Event::Opened(begun),
-            cursor: go_on(rules, leads, !begun.numbered, 0, next),
-        },
-        StartRead::Refused(r) => Step {
-            event: Event::Refused(r),
-            cursor,
-        },
+        });
     }
+    let begun = read_start(tape, guide, cursor.front)?;
+    Ok(Step {
+        event: Event::Opened(begun.value),
+        cursor: go_on(guide, !begun.value.numbered, 0, begun.front),
+    })
 }
 
 // Before an item: its word, or it is left out.
-fn take_item(tape: &[u8], rules: Rules, leads: &[u8], item: Item, cursor: Cursor) -> Step
-    requires { Widths item.kind × (256 ≡ length leads.now) × (cursor.item < 22) }
-    ensures { step_told tape.now result ≡ takes (length tape.now) item (going rules leads.now) (spot_told tape.now cursor) (standing (way_by rules.dots rules.addresses) item.letter (rows_at tape.now cursor.front)) }
+fn take_item(tape: &[u8], guide: &Guide, item: Item, cursor: Cursor) -> Result<Step, Refusal>
+    requires { Widths item.kind × (cursor.item < 22) }
+    ensures { told_by (step_told tape.now) result ≡ takes (length tape.now) item (going guide.now.rules guide.now.leads) (spot_told tape.now cursor) (standing (way_by guide.now.rules.dots guide.now.rules.addresses) item.letter (rows_at tape.now cursor.front)) }
 {
     let front = cursor.front;
     let next_item = cursor.item + 1;
-    match reach_item(tape, rules.dots, rules.addresses, item.letter, front) {
-        Reach::Stops => Step {
+    match reach_item(tape, guide.rules, item.letter, front) {
+        Reach::Stops => Ok(Step {
             event: Event::Out,
             cursor: Cursor {
                 stage: Stage::Ending,
@@ -86,58 +73,47 @@ fn take_item(tape: &[u8], rules: Rules, leads: &[u8], item: Item, cursor: Cursor
                 empty: cursor.empty,
                 front,
             },
-        },
-        Reach::Out(next) => Step {
+        }),
+        Reach::Out(next) => Ok(Step {
             event: Event::Out,
-            cursor: go_on(rules, leads, cursor.empty, next_item, next),
-        },
+            cursor: go_on(guide, cursor.empty, next_item, next),
+        }),
         Reach::At(place, data) => {
-            let answer = read_word(tape, item, place, data);
-            let WordRead::Is(word, rest) = answer else {
-                return Step {
-                    event: Event::Refused(word_refusal(answer)),
-                    cursor,
-                };
-            };
-            Step {
-                event: Event::Read(word),
-                cursor: go_on(rules, leads, false, next_item, rest),
-            }
+            let word = read_word(tape, item, place, data)?;
+            Ok(Step {
+                event: Event::Read(word.value),
+                cursor: go_on(guide, false, next_item, word.front),
+            })
         }
     }
 }
 
 // Behind the items: an end.
-fn close_block(tape: &[u8], cursor: Cursor) -> Step
-    ensures { step_told tape.now result ≡ closes_by (spot_told tape.now cursor) (close_at (length tape.now) cursor.empty (rows_at tape.now cursor.front)) }
+#[tactic(auto, using(words::proofs::Fetched::fetched))]
+fn close_block(tape: &[u8], cursor: Cursor) -> Result<Step, Refusal>
+    ensures { told_by (step_told tape.now) result ≡ closes_by (close_at (length tape.now) cursor.empty (rows_at tape.now cursor.front)) }
 {
-    let front = cursor.front;
-    match find_end(tape, cursor.empty, front) {
-        EndFound::At(lf, after) => Step {
-            event: Event::Closed(lf),
-            cursor: Cursor {
-                stage: Stage::Between,
-                item: 0,
-                empty: false,
-                front: rows::next_kept(tape, after),
-            },
+    let end = find_end(tape, cursor.empty, cursor.front)?;
+    Ok(Step {
+        event: Event::Closed(end.lf),
+        cursor: Cursor {
+            stage: Stage::Between,
+            item: 0,
+            empty: false,
+            front: rows::next_kept(tape, end.after),
         },
-        EndFound::Refused(r) => Step {
-            event: Event::Refused(r),
-            cursor,
-        },
-    }
+    })
 }
 
 // One step. The item is the cursor's; between blocks and behind the items it is not looked at.
-pub fn take_step(tape: &[u8], rules: Rules, leads: &[u8], item: Item, cursor: Cursor) -> Step
-    requires { Ready rules leads.now item cursor }
-    ensures { step_told tape.now result ≡ step_at (length tape.now) rules leads.now item (spot_told tape.now cursor) }
+#[tactic(auto, unfolding(crate::specs::Steps::step_at))]
+pub fn take_step(tape: &[u8], guide: &Guide, item: Item, cursor: Cursor) -> Result<Step, Refusal>
+    requires { Ready item cursor }
+    ensures { told_by (step_told tape.now) result ≡ step_at (length tape.now) guide.now.rules guide.now.leads item (spot_told tape.now cursor) }
 {
-    let stage = cursor.stage;
-    match stage {
-        Stage::Between => open_block(tape, rules, leads, cursor),
-        Stage::Before => take_item(tape, rules, leads, item, cursor),
+    match cursor.stage {
+        Stage::Between => open_block(tape, guide, cursor),
+        Stage::Before => take_item(tape, guide, item, cursor),
         Stage::Ending => close_block(tape, cursor),
     }
 }

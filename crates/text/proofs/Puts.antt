@@ -1,12 +1,13 @@
 -- Laws of puts: one behind another is the put of both; and a turn of a loop takes the first of what is to come.
-use Prim.Native.Nat.{ℕ, suc, ◌+◌, ◌≤◌}
+use Prim.Native.Nat.{ℕ, suc, ◌+◌, ◌-◌, ◌≤◌}
 use mathlib.Core.Path.{◌≡◌, refl, sym, ap, subst, ◌∙◌}
-use mathlib.Core.List.{List, [], ◌∷◌, ◌++◌}
-use mathlib.Core.Bool.{Bool, true, false, cond}
-use native.Mathlib.Nat.{add-suc, suc-add, add-zero, le_refl}
+use mathlib.Core.List.{List, [], ◌∷◌, ◌++◌, append_assoc}
+use native.Mathlib.Nat.{add-suc, suc-add, add-zero}
 use native.Mathlib.Omega.{arith}
-use lib.ListN.{length, set, length-append}
-use lib.Seq.{sets, length-sets}
+use lib.ListN.{length, set, take, drop, length-append}
+use lib.Seq.{sets, length-sets, sets-eq}
+use borrow.Rule.Slice.PartMut.{put_mid}
+use Rattle.std.proofs.lemmas.List.{drop-drop}
 use Rattle.text.specs.Line.{Put}
 
 pub sets-append : (xs ys l : List ℕ) (i : ℕ) → sets l i (xs ++ ys) ≡ sets (sets l i xs) (i + length xs) ys
@@ -25,6 +26,12 @@ put-length {l₀} {at = at} {xs = xs} h = ap length h.bytes ∙ length-sets l₀
 
 pub put_as : {l₀ l : List ℕ} {at n : ℕ} {xs ys : List ℕ} → xs ≡ ys → Put l₀ at xs l n → Put l₀ at ys l n
 put_as {l₀} {l} {at} {n} e h = subst (λ k. Put l₀ at k l n) e h
+
+-- a part of a line overwritten
+pub put_part : (l cs ds : List ℕ) (at n : ℕ) → at + length cs ≤ length l → ds ≡ cs → n ≡ at + length cs → Put l at cs (put_mid at (n - at) l ds) n
+put_part l cs ds at n h e q =
+    let k : n - at ≡ length cs = omega arith in
+    record { end = q; bytes = rw (k, e, drop-drop (length cs) at l) (sym (sets-eq cs l at h ∙ append_assoc (take at l) cs (drop (at + length cs) l))) }
 
 -- ---- a loop: what was to be put at first is what is to be put now
 
@@ -49,9 +56,3 @@ coming-room h r = omega (arith, h.end, h.same, r)
 
 pub coming-as : {l₀ l : List ℕ} {start at : ℕ} {all xs ys : List ℕ} → xs ≡ ys → Coming l₀ start all l at xs → Coming l₀ start all l at ys
 coming-as {l₀} {l} {start} {at} {all} e h = subst (λ k. Coming l₀ start all l at k) e h
-
--- ---- a sign
-
-pub sign-most : (minus : Bool) → length {A = ℕ} (cond minus (45 ∷ []) []) ≤ 1
-sign-most true = le_refl 1
-sign-most false = omega arith

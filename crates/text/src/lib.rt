@@ -1,8 +1,7 @@
 // Text put into a line: numbers, words and a block's start. Each put writes behind what stands, and answers the place behind it.
 #![tactic(auto)]
 
-ghost use Rattle.std.specs.Prelude.{◌≡◌, cond, [], ◌∷◌, ◌+◌, ◌≤◌, ◌<◌, max, length};
-ghost use Rattle.io.specs.Digits.{last_digits, IsDigitCount};
+ghost use Rattle.std.specs.Prelude.{◌≡◌, cond, [], ◌∷◌, ◌+◌, ◌≤◌, ◌<◌, length};
 ghost use Rattle.words.specs.declared.Value.TheVariants.{Dimension};
 ghost use Rattle.text.specs.Text.{decimal, full, speed_text, value_text, word_text, sequence_text, start_text};
 ghost use Rattle.text.specs.Line.{Put};
@@ -10,10 +9,10 @@ ghost use Rattle.text.specs.Line.{Put};
 pub mod finding;
 
 use parts::Begun;
-use punching::magnitude_of;
 use speeds::Speed;
 use words::{Value, Word};
 
+// A lent line and a place, and no struct of both: the public clauses speak of the line before and behind each put, which a struct of a loan would not shorten.
 pub fn put(line: &mut [u8], at: usize, b: u8) -> usize
     requires { at < length line.old }
     ensures { Put line.old at (b ∷ []) line.new result }
@@ -26,41 +25,9 @@ pub fn put_all(line: &mut [u8], start: usize, text: &[u8]) -> usize
     requires { start + length text.now ≤ length line.old }
     ensures { Put line.old start text.now line.new result }
 {
-    let mut at = start;
-    let mut i = 0;
-    while i < text.len() {
-        at = put(line, at, text[i]);
-        i += 1;
-    }
-    at
-}
-
-// How many digits a number has in plain decimal.
-fn count_digits(v: u64) -> usize
-    ensures { IsDigitCount 10 1 v result }
-{
-    let mut k = 1;
-    let mut rest = v / 10;
-    while 0 < rest {
-        rest = rest / 10;
-        k += 1;
-    }
-    k
-}
-
-// The last k digits of a number: the remainders by ten give them from the last to the first.
-fn put_digits(line: &mut [u8], at: usize, k: usize, v: u64) -> usize
-    requires { at + k ≤ length line.old }
-    ensures { Put line.old at (last_digits 10 k v) line.new result }
-{
-    let mut rest = v;
-    let mut i = k;
-    while 0 < i {
-        i -= 1;
-        line[at + i] = 48 + (rest % 10) as u8;
-        rest = rest / 10;
-    }
-    at + k
+    let end = start + text.len();
+    line[start..end].copy_from_slice(text);
+    end
 }
 
 // A number in plain decimal.
@@ -69,13 +36,9 @@ pub fn put_decimal(line: &mut [u8], at: usize, v: u64) -> usize
     ensures put { Put line.old at (decimal v) line.new result }
     ensures end { result ≤ at + 20 }
 {
-    put_digits(line, at, count_digits(v), v)
-}
-
-fn greater(a: usize, b: usize) -> usize
-    ensures { result ≡ max a b }
-{
-    if a < b { b } else { a }
+    let mut digits = [0u8; 20];
+    let k = io::decimal(v, &mut digits);
+    put_all(line, at, &digits[..k])
 }
 
 // The same with zeros in front up to n digits.
@@ -84,7 +47,11 @@ fn put_full(line: &mut [u8], at: usize, n: u8, v: u64) -> usize
     ensures put { Put line.old at (full n v) line.new result }
     ensures end { result ≤ at + n + 20 }
 {
-    put_digits(line, at, greater(n as usize, count_digits(v)), v)
+    let mut digits = [0u8; 20];
+    let k = io::decimal(v, &mut digits);
+    let first = at + (n as usize).saturating_sub(k);
+    line[at..first].fill(b'0');
+    put_all(line, first, &digits[..k])
 }
 
 // A minus before a negative number.
@@ -92,7 +59,7 @@ fn put_sign(line: &mut [u8], at: usize, minus: bool) -> usize
     requires { at < length line.old }
     ensures { Put line.old at (cond minus (45 ∷ []) []) line.new result }
 {
-    if minus { put(line, at, 45) } else { at }
+    if minus { put(line, at, b'-') } else { at }
 }
 
 fn put_dimension(line: &mut [u8], at: usize, z: i64) -> usize
@@ -100,9 +67,8 @@ fn put_dimension(line: &mut [u8], at: usize, z: i64) -> usize
     ensures put { Put line.old at (value_text (Dimension z)) line.new result }
     ensures end { result ≤ at + 21 }
 {
-    let m = magnitude_of(z);
-    let next = put_sign(line, at, m.minus);
-    put_decimal(line, next, m.size)
+    let next = put_sign(line, at, z < 0);
+    put_decimal(line, next, z.unsigned_abs())
 }
 
 // A stop and rapid by their words.
@@ -136,16 +102,9 @@ pub fn put_word(line: &mut [u8], at: usize, word: Word) -> usize
     ensures put { Put line.old at (word_text word) line.new result }
     ensures end { result ≤ at + 23 }
 {
-    let value = word.value;
-    let next = put(line, at, 32);
+    let next = put(line, at, b' ');
     let then = put(line, next, word.letter);
-    put_value(line, then, value)
-}
-
-fn either(first: bool, a: u8, b: u8) -> u8
-    ensures { result ≡ cond first a b }
-{
-    if first { a } else { b }
+    put_value(line, then, word.value)
 }
 
 // The sequence number, or "-" where there is none.
@@ -157,7 +116,7 @@ fn put_sequence(line: &mut [u8], at: usize, digits: u8, begun: Begun) -> usize
     if begun.numbered {
         put_full(line, at, digits, begun.sequence)
     } else {
-        put(line, at, 45)
+        put(line, at, b'-')
     }
 }
 
@@ -167,11 +126,9 @@ pub fn put_start(line: &mut [u8], start: usize, digits: u8, begun: Begun) -> usi
     ensures put { Put line.old start (start_text digits begun) line.new result }
     ensures end { result ≤ start + digits + 24 }
 {
-    let skip = begun.skip;
-    let alignment = begun.alignment;
-    let at = put(line, start, either(alignment, 58, 78));
-    let number = put(line, at, 32);
+    let at = put(line, start, if begun.alignment { b':' } else { b'N' });
+    let number = put(line, at, b' ');
     let next = put_sequence(line, number, digits, begun);
-    let mark = put(line, next, 32);
-    put(line, mark, either(skip, 47, 45))
+    let mark = put(line, next, b' ');
+    put(line, mark, if begun.skip { b'/' } else { b'-' })
 }

@@ -1,6 +1,5 @@
 // Answers, composed in the output's buffer: each put answers the place behind what it put. A full buffer is written, and filled anew.
-use reading::Counted;
-use rows::{Checked, Refusal};
+use rows::Refusal;
 use std::io;
 use std::io::{Stdout, Write};
 
@@ -59,10 +58,8 @@ pub fn put(out: &mut Output, at: usize, b: u8) -> usize {
 
 pub fn put_all(out: &mut Output, start: usize, text: &[u8]) -> usize {
     let mut at = start;
-    let mut i = 0;
-    while i < text.len() {
-        at = put(out, at, text[i]);
-        i += 1;
+    for b in text {
+        at = put(out, at, *b);
     }
     at
 }
@@ -86,14 +83,15 @@ pub fn put_number(out: &mut Output, start: usize, n: u64) -> usize {
 }
 
 pub fn put_refusal(out: &mut Output, at: usize, r: Refusal) -> usize {
-    let place = put_number(out, at, r.number as u64);
+    let place = put_number(out, at, u32::from(r.cause) as u64);
     put_number(out, place, r.place as u64)
 }
 
-pub fn put_checked(out: &mut Output, at: usize, answer: Checked) -> usize {
+// Number and place of an answer, 0 and 0 of one that was given.
+pub fn put_outcome<T>(out: &mut Output, at: usize, answer: &Result<T, Refusal>) -> usize {
     match answer {
-        Checked::Clean => put_all(out, at, b" 0 0"),
-        Checked::Refused(r) => put_refusal(out, at, r),
+        Ok(_) => put_all(out, at, b" 0 0"),
+        Err(r) => put_refusal(out, at, *r),
     }
 }
 
@@ -109,10 +107,11 @@ pub fn put_refused(out: &mut Output, at: usize, r: Refusal) -> usize {
     put_number(out, next, 0)
 }
 
-pub fn put_counted(out: &mut Output, at: usize, count: Counted) -> usize {
+// Either of them, where the value is a count.
+pub fn put_counted(out: &mut Output, at: usize, count: Result<usize, Refusal>) -> usize {
     match count {
-        Counted::Blocks(n) => put_value(out, at, n as u64),
-        Counted::Refused(r) => put_refused(out, at, r),
+        Ok(n) => put_value(out, at, n as u64),
+        Err(r) => put_refused(out, at, r),
     }
 }
 
@@ -151,14 +150,12 @@ fn put_row(out: &mut Output, at: usize, row: u8) -> usize {
 
 // A space and the rows, where there are any.
 pub fn put_rows(out: &mut Output, start: usize, rows: &[u8]) -> usize {
-    if rows.len() == 0 {
+    if rows.is_empty() {
         return start;
     }
     let mut at = put(out, start, b' ');
-    let mut i = 0;
-    while i < rows.len() {
-        at = put_row(out, at, rows[i]);
-        i += 1;
+    for row in rows {
+        at = put_row(out, at, *row);
     }
     at
 }

@@ -1,21 +1,8 @@
 // What a line asks: its parts, its numbers and its rows, as LINES.md spells them.
-ghost use Rattle.std.specs.Prelude.{◌≤◌, length};
+ghost use Rattle.std.specs.Prelude.{◌≤◌, length, IfSome};
 
+use profile::Terms;
 use text::finding::find_byte;
-
-// A number so far, with one digit more or not.
-#[derive(Clone, Copy)]
-enum Grown {
-    To(u64),
-    Full,
-}
-
-// A row that is spelt by its number, or none.
-#[derive(Clone, Copy)]
-enum Numbered {
-    Row(u8),
-    Nothing,
-}
 
 // The row that is spelt at a place, and how many more bytes than one that takes.
 #[derive(Clone, Copy)]
@@ -70,7 +57,7 @@ fn split(text: &[u8]) -> Bounds
 }
 
 // The shorthand behind the edition.
-pub fn shorthand_of(asked: &[u8]) -> &[u8] {
+fn shorthand_of(asked: &[u8]) -> &[u8] {
     let text = rest(asked);
     let bounds = split(text);
     let end = bounds.shorthand;
@@ -78,12 +65,21 @@ pub fn shorthand_of(asked: &[u8]) -> &[u8] {
 }
 
 // The profile behind the shorthand, empty where there is none.
-pub fn profile_of(asked: &[u8]) -> &[u8] {
+fn profile_of(asked: &[u8]) -> &[u8] {
     let text = rest(asked);
     let bounds = split(text);
     let from = bounds.profile;
     let end = bounds.end;
     &text[from..end]
+}
+
+// What a line asks under: its edition, its shorthand and its profile.
+pub fn terms_of(asked: &[u8]) -> Terms<'_> {
+    Terms {
+        edition: narrow(asked),
+        shorthand: shorthand_of(asked),
+        profile: profile_of(asked),
+    }
 }
 
 // What stands behind edition, shorthand and profile.
@@ -107,66 +103,52 @@ pub fn next_part(text: &[u8], at: usize) -> usize
 }
 
 pub fn first_of(text: &[u8]) -> u8 {
-    if text.len() == 0 {
-        return 0;
+    match text {
+        [first, ..] => *first,
+        [] => 0,
     }
-    text[0]
 }
 
 pub fn behind_first(text: &[u8]) -> &[u8] {
-    if text.len() == 0 {
-        return text;
+    match text {
+        [_, behind @ ..] => behind,
+        [] => text,
     }
-    &text[1..]
 }
 
-// A digit's value; 10 of any other character.
-pub fn digit_of(c: u8) -> u64
-    ensures { result ≤ 10 }
+// A digit's value, if the character is one.
+pub fn digit_of(c: u8) -> Option<u64>
+    ensures { IfSome result (λ d. d ≤ 9) }
 {
-    if c < 48 {
-        return 10;
+    match c {
+        b'0'..=b'9' => Some((c - b'0') as u64),
+        _ => None,
     }
-    if 57 < c {
-        return 10;
-    }
-    (c - 48) as u64
 }
 
 // A number with one digit more, unless that is over the most.
-fn with_digit(n: u64, d: u64, most: u64) -> Grown {
-    let tens = most / 10;
-    if 9 < d {
-        return Grown::Full;
-    }
-    if tens < n {
-        return Grown::Full;
-    }
-    if n < tens {
-        return Grown::To(n * 10 + d);
-    }
-    if most % 10 < d {
-        return Grown::Full;
-    }
-    Grown::To(n * 10 + d)
+fn with_digit(n: u64, d: u64, most: u64) -> Option<u64> {
+    let next = n.checked_mul(10)?.checked_add(d)?;
+    if most < next { None } else { Some(next) }
 }
 
 // The number at the front of a text, as far as its digits are within the most.
 fn number_within(text: &[u8], most: u64) -> u64 {
     let mut n: u64 = 0;
-    let mut i = 0;
-    while i < text.len() {
-        let Grown::To(next) = with_digit(n, digit_of(text[i]), most) else {
+    for c in text {
+        let Some(d) = digit_of(*c) else {
+            return n;
+        };
+        let Some(next) = with_digit(n, d, most) else {
             return n;
         };
         n = next;
-        i += 1;
     }
     n
 }
 
 pub fn number(text: &[u8]) -> u64 {
-    number_within(text, 18446744073709551615)
+    number_within(text, u64::MAX)
 }
 
 pub fn narrow(text: &[u8]) -> u32 {
@@ -216,28 +198,19 @@ fn character_of(c: u8) -> u8 {
 }
 
 // `\` and three digits that are a row's number.
-fn numbered_row(text: &[u8]) -> Numbered {
-    if text.len() < 4 {
-        return Numbered::Nothing;
-    }
-    let hundreds = digit_of(text[1]);
-    let tens = digit_of(text[2]);
-    let ones = digit_of(text[3]);
-    if text[0] != b'\\' || 9 < hundreds || 9 < tens || 9 < ones {
-        return Numbered::Nothing;
-    }
-    let n = hundreds * 100 + tens * 10 + ones;
-    if 255 < n {
-        return Numbered::Nothing;
-    }
-    Numbered::Row((n % 256) as u8)
+fn numbered_row(text: &[u8]) -> Option<u8> {
+    let [b'\\', hundreds, tens, ones, ..] = text else {
+        return None;
+    };
+    let n = digit_of(*hundreds)? * 100 + digit_of(*tens)? * 10 + digit_of(*ones)?;
+    if 255 < n { None } else { Some(n as u8) }
 }
 
 // The row that is spelt at the front of a text.
 fn first_row(text: &[u8], odd: bool) -> Spelt {
     match numbered_row(text) {
-        Numbered::Row(row) => Spelt { row, more: 3 },
-        Numbered::Nothing => Spelt {
+        Some(row) => Spelt { row, more: 3 },
+        None => Spelt {
             row: row_of(character_of(first_of(text)), odd),
             more: 0,
         },
@@ -251,6 +224,7 @@ pub fn rows_of(text: &[u8], tape: &mut [u8]) -> usize
     let mut n: usize = 0;
     let mut i = 0;
     let mut odd = false;
+    // No `for`: a row is spelt by one byte, by two or by four.
     while i < text.len() {
         if text[i] == b'?' {
             odd = true;
@@ -278,16 +252,12 @@ pub fn rows_of(text: &[u8], tape: &mut [u8]) -> usize
 pub fn text_of(text: &[u8], input: &mut [u8]) -> usize
     ensures { result ≤ length input.new }
 {
-    let mut i = 0;
-    while i < text.len() {
-        if input.len() <= i {
-            return i;
-        }
+    let n = text.len().min(input.len());
+    for i in 0..n {
         let c = text[i];
         input[i] = if c == b'~' { 10 } else { c };
-        i += 1;
     }
-    i
+    n
 }
 
 // How many rows of a buffer are lent.
@@ -298,20 +268,14 @@ pub fn room_in(buffer: &[u8], text: &[u8]) -> usize
     if buffer.len() < 4000 {
         return 0;
     }
-    if room < 4000 { room } else { 4000 }
+    room.min(4000)
 }
 
-fn byte_after(b: u8, step: u8) -> u8 {
-    ((b as u32 + step as u32) % 256) as u8
-}
-
-// The old content of a lent buffer: each byte is the one before it and a step more.
-pub fn fill(buffer: &mut [u8], first: u64, step: u8) {
+// The old content of what is lent: each place holds what the one before it holds and a step more, up to 255.
+pub fn fill<T: From<u8> + Copy>(places: &mut [T], first: u64, step: u8) {
     let mut b = (first % 256) as u8;
-    let mut i = 0;
-    while i < buffer.len() {
-        buffer[i] = b;
-        b = byte_after(b, step);
-        i += 1;
+    for place in places.iter_mut() {
+        *place = T::from(b);
+        b = b.wrapping_add(step);
     }
 }

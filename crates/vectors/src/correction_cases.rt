@@ -1,31 +1,28 @@
 // Cases of the crate corrections.
 ghost use Rattle.std.specs.Prelude.{◌≤◌, length};
 
-use crate::answers::{Output, put, put_all, put_decimal, put_number, put_refusal, put_rows};
-use crate::asked::{behind_profile, narrow, number, part, profile_of, rest, rows_of, shorthand_of};
+use crate::answers::{Output, put, put_all, put_decimal, put_refusal};
+use crate::asked::{behind_profile, number, part, rest, rows_of, terms_of};
+use crate::block_cases::put_part;
 use crate::index_cases::{marked_of, numbers_of};
-use corrections::{Corrected, Tape};
+use corrections::{Named, Tape};
+use rows::Refusal;
 
 // Whether a bar with a space on either side stands at the front of a text.
 fn is_between(text: &[u8]) -> bool {
-    if text.len() < 3 {
-        return false;
-    }
-    text[0] == b' ' && text[1] == b'|' && text[2] == b' '
+    matches!(text, [b' ', b'|', b' ', ..])
 }
 
 // Where the first such bar stands, by the space before it; the text's length where there is none.
 fn bar_in(tapes: &[u8]) -> usize
     ensures { result ≤ length tapes.now }
 {
-    let mut i: usize = 0;
-    while i < tapes.len() {
+    for i in 0..tapes.len() {
         if is_between(&tapes[i..]) {
             return i;
         }
-        i += 1;
     }
-    i
+    tapes.len()
 }
 
 // The correction of two spelt tapes: what stands before the bar.
@@ -52,42 +49,26 @@ fn letter_of(tape: Tape) -> u8 {
 }
 
 // Number, place and, where there is one, the entry: its tape's letter and its block.
-fn put_corrected(out: &mut Output, at: usize, answer: Corrected) -> usize {
+fn put_corrected(out: &mut Output, at: usize, answer: Result<Named, Refusal>) -> usize {
     match answer {
-        Corrected::Entry(named) => {
-            let tape = named.tape;
-            let block = named.block;
+        Ok(named) => {
             let next = put_all(out, at, b" 0 0 ");
-            let behind = put(out, next, letter_of(tape));
-            put_decimal(out, behind, block as u64)
+            let behind = put(out, next, letter_of(named.tape));
+            put_decimal(out, behind, named.block as u64)
         }
-        Corrected::Refused(r) => put_refusal(out, at, r),
+        Err(r) => put_refusal(out, at, r),
     }
 }
 
 // The rows of a number on whichever of two tapes holds them.
-fn rows_held<'a>(
-    asked: &[u8],
-    correction: &'a [u8],
-    master: &'a [u8],
-    out: &mut Output,
-    at: usize,
-) -> usize {
-    let mut refusal: u32 = 0;
-    let mut place: usize = 0;
+fn rows_held(asked: &[u8], correction: &[u8], master: &[u8], out: &mut Output, at: usize) -> usize {
     let rows = corrections::corrected_rows(
-        narrow(asked),
-        shorthand_of(asked),
-        profile_of(asked),
+        &terms_of(asked),
         correction,
         master,
         marked_of(behind_profile(asked)),
-        &mut refusal,
-        &mut place,
     );
-    let next = put_number(out, at, refusal as u64);
-    let behind = put_number(out, next, place as u64);
-    put_rows(out, behind, rows)
+    put_part(out, at, rows)
 }
 
 // CP: the rows of a number, on the correction or else on the master.
@@ -105,11 +86,9 @@ pub fn part_of(
 }
 
 // Entry n of the corrected listing of two tapes.
-fn entry_under(asked: &[u8], correction: &[u8], master: &[u8]) -> Corrected {
+fn entry_under(asked: &[u8], correction: &[u8], master: &[u8]) -> Result<Named, Refusal> {
     corrections::corrected_entry(
-        narrow(asked),
-        shorthand_of(asked),
-        profile_of(asked),
+        &terms_of(asked),
         correction,
         master,
         number(behind_profile(asked)) as usize,

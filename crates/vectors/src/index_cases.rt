@@ -2,23 +2,21 @@
 ghost use Rattle.std.specs.Prelude.{◌≤◌, length};
 
 use crate::answers::{
-    Output, put, put_all, put_checked, put_counted, put_decimal, put_number, put_refused, put_rows,
-    put_value,
+    Output, put, put_all, put_counted, put_decimal, put_number, put_refused, put_rows, put_value,
 };
-use crate::asked::{
-    behind_profile, fill, first_of, narrow, number, part, profile_of, rest, rows_of, shorthand_of,
-};
-use crate::records::{put_record, record_of};
-use images::Updated;
-use index::{Located, NO_NUMBER};
+use crate::asked::{behind_profile, fill, first_of, number, part, rest, rows_of, terms_of};
+use crate::block_cases::{put_block, put_part};
+use crate::records::record_of;
+use images::Image;
+use index::NO_NUMBER;
+use rows::Refusal;
 use text::finding::find_byte;
 
 // How many places of an array are lent.
 pub fn places_in(text: &[u8]) -> usize
     ensures { result ≤ 100 }
 {
-    let places = number(text);
-    if places < 100 { places as usize } else { 100 }
+    (number(text) as usize).min(100)
 }
 
 // What stands behind the first comma; all of the text where it has none.
@@ -32,7 +30,7 @@ pub fn behind_comma(text: &[u8]) -> &[u8] {
 
 // Whether a list has no entries.
 fn is_bare(list: &[u8]) -> bool {
-    list.len() == 0 || first_of(list) == b'.'
+    list.is_empty() || first_of(list) == b'.'
 }
 
 // A number, or the mark.
@@ -43,119 +41,85 @@ pub fn marked_of(text: &[u8]) -> u64 {
     number(text)
 }
 
-// The old content of an array of first rows, as of a buffer.
-pub fn fill_firsts(firsts: &mut [usize], first: u64) {
-    let mut b = first % 256;
-    let mut i: usize = 0;
-    while i < firsts.len() {
-        firsts[i] = b as usize;
-        b = (b + 1) % 256;
-        i += 1;
+// What a list holds, as much as there are places for; each is read from where it stands to the end of the list.
+fn list_of<T: Copy, F: Fn(&[u8]) -> T>(list: &[u8], places: &mut [T], read: F) -> usize
+    requires { F.IsAlwaysCallable read }
+    ensures { result ≤ length places.new }
+{
+    if is_bare(list) {
+        return 0;
     }
+    let mut at: usize = 0;
+    for n in 0..places.len() {
+        places[n] = read(&list[at..]);
+        let comma = find_byte(list, at, list.len(), b',');
+        if list.len() <= comma {
+            return n + 1;
+        }
+        at = comma + 1;
+    }
+    places.len()
 }
 
-// The same of an array of numbers.
-fn fill_numbers(numbers: &mut [u64], first: u64) {
-    let mut b = first % 256;
-    let mut i: usize = 0;
-    while i < numbers.len() {
-        numbers[i] = b;
-        b = (b + 1) % 256;
-        i += 1;
-    }
-}
-
-// The first rows in a list, as many as there are places for.
+// The first rows in a list.
 fn firsts_of(list: &[u8], firsts: &mut [usize]) -> usize
     ensures { result ≤ length firsts.new }
 {
-    if is_bare(list) {
-        return 0;
-    }
-    let mut n: usize = 0;
-    let mut at: usize = 0;
-    while n < firsts.len() {
-        firsts[n] = number(&list[at..]) as usize;
-        n += 1;
-        let comma = find_byte(list, at, list.len(), b',');
-        if list.len() <= comma {
-            return n;
-        }
-        at = comma + 1;
-    }
-    n
+    list_of(list, firsts, |text| number(text) as usize)
 }
 
-// The numbers in a list, as many as there are places for.
+// The numbers in a list.
 pub fn numbers_of(list: &[u8], numbers: &mut [u64]) -> usize
     ensures { result ≤ length numbers.new }
 {
-    if is_bare(list) {
-        return 0;
-    }
-    let mut n: usize = 0;
-    let mut at: usize = 0;
-    while n < numbers.len() {
-        numbers[n] = marked_of(&list[at..]);
-        n += 1;
-        let comma = find_byte(list, at, list.len(), b',');
-        if list.len() <= comma {
-            return n;
-        }
-        at = comma + 1;
-    }
-    n
+    list_of(list, numbers, |text| marked_of(text))
 }
 
-// What stands before an entry of a list.
-pub fn put_between(out: &mut Output, at: usize, i: usize) -> usize {
-    if i == 0 {
-        return put(out, at, b' ');
+// A number, or a dash for none.
+fn put_marked(out: &mut Output, at: usize, n: Option<u64>) -> usize {
+    match n {
+        Some(n) => put_decimal(out, at, n),
+        None => put(out, at, b'-'),
     }
-    put(out, at, b',')
 }
 
-// A space and the first rows; a dot for none.
-pub fn put_firsts(out: &mut Output, start: usize, firsts: &[usize]) -> usize {
-    if firsts.len() == 0 {
+// A space and the entries of a list, each as a number or none, with commas between them; a dot for no entries.
+pub fn put_list<T: Copy, F: Fn(T) -> Option<u64>>(
+    out: &mut Output,
+    start: usize,
+    list: &[T],
+    told: F,
+) -> usize
+    requires { F.IsAlwaysCallable told }
+{
+    if list.is_empty() {
         return put_all(out, start, b" .");
     }
     let mut at = start;
-    let mut i: usize = 0;
-    while i < firsts.len() {
-        let next = put_between(out, at, i);
-        at = put_decimal(out, next, firsts[i] as u64);
-        i += 1;
+    let mut between = b' ';
+    for entry in list {
+        let next = put(out, at, between);
+        at = put_marked(out, next, told(*entry));
+        between = b',';
     }
     at
 }
 
-// A number, or a dash for the mark.
-fn put_marked(out: &mut Output, at: usize, n: u64) -> usize {
-    if n == NO_NUMBER {
-        return put(out, at, b'-');
-    }
-    put_decimal(out, at, n)
+// First rows, or the sizes of pieces.
+pub fn put_rows_listed(out: &mut Output, start: usize, firsts: &[usize]) -> usize {
+    put_list(out, start, firsts, |row| Some(row as u64))
 }
 
-// A space and the numbers; a dot for none.
+// Numbers, with a dash for the mark.
 fn put_numbers(out: &mut Output, start: usize, numbers: &[u64]) -> usize {
-    if numbers.len() == 0 {
-        return put_all(out, start, b" .");
-    }
-    let mut at = start;
-    let mut i: usize = 0;
-    while i < numbers.len() {
-        let next = put_between(out, at, i);
-        at = put_marked(out, next, numbers[i]);
-        i += 1;
-    }
-    at
+    put_list(out, start, numbers, |n| {
+        if n == NO_NUMBER { None } else { Some(n) }
+    })
 }
 
 // Both arrays.
 fn put_arrays(out: &mut Output, at: usize, firsts: &[usize], numbers: &[u64]) -> usize {
-    let next = put_firsts(out, at, firsts);
+    let next = put_rows_listed(out, at, firsts);
     put_numbers(out, next, numbers)
 }
 
@@ -169,16 +133,9 @@ fn build_into(
     out: &mut Output,
     at: usize,
 ) -> usize {
-    fill_firsts(firsts, first);
-    fill_numbers(numbers, first);
-    let count = index::build_index(
-        narrow(asked),
-        shorthand_of(asked),
-        profile_of(asked),
-        tape,
-        firsts,
-        numbers,
-    );
+    fill(firsts, first, 1);
+    fill(numbers, first, 1);
+    let count = index::build_index(&terms_of(asked), tape, firsts, numbers);
     let next = put_counted(out, at, count);
     put_arrays(out, next, firsts, numbers)
 }
@@ -216,8 +173,7 @@ fn size_of(buffer: &[u8], asked: &[u8], rows: usize) -> usize
         return 0;
     }
     let room = number(asked) as usize;
-    let size = if room < rows { rows } else { room };
-    if size < 4000 { size } else { 4000 }
+    room.max(rows).min(4000)
 }
 
 // An image in the first rows of a buffer, the others as they are counted up; answers how many rows it has.
@@ -229,14 +185,13 @@ fn lay_image(text: &[u8], first: u64, buffer: &mut [u8]) -> usize
 }
 
 // Rows and blocks of an image that was changed.
-fn put_updated(out: &mut Output, at: usize, answer: Updated) -> usize {
+fn put_updated(out: &mut Output, at: usize, answer: Result<Image, Refusal>) -> usize {
     match answer {
-        Updated::To(image) => {
-            let rows = image.rows;
-            let next = put_value(out, at, rows as u64);
+        Ok(image) => {
+            let next = put_value(out, at, image.rows as u64);
             put_number(out, next, image.blocks as u64)
         }
-        Updated::Refused(r) => {
+        Err(r) => {
             let next = put_refused(out, at, r);
             put_number(out, next, 0)
         }
@@ -263,11 +218,9 @@ fn append_under(
     rows: usize,
     firsts: &mut [usize],
     numbers: &mut [u64],
-) -> Updated {
+) -> Result<Image, Refusal> {
     images::append_block(
-        narrow(asked),
-        shorthand_of(asked),
-        profile_of(asked),
+        &terms_of(asked),
         image,
         rows,
         firsts,
@@ -288,8 +241,8 @@ fn append_into(
     out: &mut Output,
     at: usize,
 ) -> usize {
-    fill_firsts(firsts, first);
-    fill_numbers(numbers, first);
+    fill(firsts, first, 1);
+    fill(numbers, first, 1);
     let answer = append_under(asked, record, image, rows, firsts, numbers);
     let next = put_updated(out, at, answer);
     let behind = put_rows(out, next, image);
@@ -337,13 +290,7 @@ pub fn append(
 // The last block taken off an image that is laid into its buffer.
 fn take_off_in(asked: &[u8], first: &[u8], image: &mut [u8], out: &mut Output, at: usize) -> usize {
     let rows = lay_image(rest(first), number(first), image);
-    let answer = images::take_off(
-        narrow(asked),
-        shorthand_of(asked),
-        profile_of(asked),
-        image,
-        rows,
-    );
+    let answer = images::take_off(&terms_of(asked), image, rows);
     let next = put_updated(out, at, answer);
     put_rows(out, next, image)
 }
@@ -367,21 +314,14 @@ pub fn take_off(
 fn rows_asked(text: &[u8]) -> usize
     ensures { result ≤ 1000001 }
 {
-    let rows = number(text);
-    if rows < 1000001 {
-        rows as usize
-    } else {
-        1000001
-    }
+    (number(text) as usize).min(1000001)
 }
 
 // How many rows its buffer has: as many as are asked, or as the image has where those are more.
 fn long_size(room: &[u8], rows: &[u8]) -> usize
     ensures { result ≤ 1000001 }
 {
-    let n = rows_asked(rows);
-    let size = rows_asked(room);
-    if size < n { n } else { size }
+    rows_asked(room).max(rows_asked(rows))
 }
 
 // A head, a remark and NUL.
@@ -441,17 +381,12 @@ fn block_of(asked: &[u8], tape: &[u8], out: &mut Output, at: usize) -> usize {
     let mut firsts = [0usize; 100];
     let k = firsts_of(part(rest(wanted)), &mut firsts);
     let answer = index::indexed_block(
-        narrow(asked),
-        shorthand_of(asked),
-        profile_of(asked),
+        &terms_of(asked),
         tape,
         &firsts[0..k],
         number(wanted) as usize,
     );
-    let outcome = answer.outcome;
-    let block = answer.block;
-    let next = put_checked(out, at, outcome);
-    put_record(out, next, block)
+    put_block(out, at, answer)
 }
 
 // IW: block n as a record, by the first rows of all blocks.
@@ -466,21 +401,13 @@ fn rows_found(asked: &[u8], tape: &[u8], out: &mut Output, at: usize) -> usize {
     let wanted = behind_profile(asked);
     let mut firsts = [0usize; 100];
     let k = firsts_of(part(rest(wanted)), &mut firsts);
-    let mut refusal: u32 = 0;
-    let mut place: usize = 0;
     let rows = index::indexed_rows(
-        narrow(asked),
-        shorthand_of(asked),
-        profile_of(asked),
+        &terms_of(asked),
         tape,
         &firsts[0..k],
         number(wanted) as usize,
-        &mut refusal,
-        &mut place,
     );
-    let next = put_number(out, at, refusal as u64);
-    let behind = put_number(out, next, place as u64);
-    put_rows(out, behind, rows)
+    put_part(out, at, rows)
 }
 
 // IP: the rows of block n, by the first rows of all blocks.
@@ -494,8 +421,9 @@ pub fn part_of(asked: &[u8], tape: &mut [u8], out: &mut Output, at: usize) -> us
 pub fn find(asked: &[u8], out: &mut Output, at: usize) -> usize {
     let mut numbers = [0u64; 100];
     let k = numbers_of(part(rest(asked)), &mut numbers);
-    match index::find_number(&numbers[0..k], marked_of(asked)) {
-        Located::Block(n) => put_value(out, at, n as u64),
-        Located::Refused(r) => put_refused(out, at, r),
-    }
+    put_counted(
+        out,
+        at,
+        index::find_number(&numbers[0..k], marked_of(asked)),
+    )
 }

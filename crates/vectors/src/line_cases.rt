@@ -1,16 +1,22 @@
 // Cases of the crate lines.
-use crate::answers::{Output, put_all, put_counted, put_number, put_refused, put_rows, put_value};
+use crate::answers::{Output, put_all, put_counted, put_number, put_rows};
 use crate::asked::{
-    behind_profile, fill, narrow, number, profile_of, rest, room_in, rows_of, shorthand_of, text_of,
+    behind_profile, fill, narrow, number, rest, room_in, rows_of, terms_of, text_of,
 };
-use lines::Printed;
-use reading::Counted;
-use rows::Refusal;
+use lines::{Header, Said};
+
+// What is written of an input that has no header.
+const NO_HEADER: Header = Header {
+    edition: 0,
+    from: 0,
+    to: 0,
+    rows: 0,
+};
 
 // O: the header of an input.
 pub fn header(asked: &[u8], input: &mut [u8], out: &mut Output, at: usize) -> usize {
     let n = text_of(asked, input);
-    let header = lines::input::read_header(&input[0..n]);
+    let header = lines::input::read_header(&input[0..n]).unwrap_or(NO_HEADER);
     let edition = put_all(out, at, b" 0 0");
     let from = put_number(out, edition, header.edition as u64);
     let to = put_number(out, from, header.from as u64);
@@ -24,28 +30,16 @@ pub fn listed(asked: &[u8], tape: &mut [u8], out: &mut Output, at: usize) -> usi
     put_counted(
         out,
         at,
-        lines::input::count_listed(
-            narrow(asked),
-            shorthand_of(asked),
-            profile_of(asked),
-            &tape[0..n],
-        ),
+        lines::input::count_listed(&terms_of(asked), &tape[0..n]),
     )
 }
 
 // A count of blocks, or a refusal: number 0 is none.
-fn counted_of(number: u32, place: usize, value: usize) -> Counted {
+fn counted_of(number: u32, place: usize, value: usize) -> Result<usize, Said> {
     if number == 0 {
-        return Counted::Blocks(value);
+        return Ok(value);
     }
-    Counted::Refused(Refusal { number, place })
-}
-
-fn put_printed(out: &mut Output, at: usize, answer: Printed) -> usize {
-    match answer {
-        Printed::Bytes(n) => put_value(out, at, n as u64),
-        Printed::Refused(r) => put_refused(out, at, r),
-    }
+    Err(Said { number, place })
 }
 
 // Z: the last line of a listing.
@@ -61,6 +55,6 @@ pub fn last(asked: &[u8], buffer: &mut [u8], out: &mut Output, at: usize) -> usi
     let room = room_in(buffer, lent);
     fill(&mut buffer[0..room], number(rest(lent)), 1);
     let answer = lines::last_line(count, &mut buffer[0..room]);
-    let next = put_printed(out, at, answer);
+    let next = put_counted(out, at, answer);
     put_rows(out, next, &buffer[0..room])
 }

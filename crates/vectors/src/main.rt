@@ -24,12 +24,18 @@ use text::finding::find_byte;
 // A line that is longer is written as it is.
 const MOST: usize = 60000;
 
-// What is held of the input between two reads: the bytes of a line that has begun, whether that is one too long, and whether more can come.
+// What is held of the input between two reads: the bytes of a line that has begun, and whether that is one too long.
 #[derive(Clone, Copy)]
 struct Held {
     bytes: usize,
     long: bool,
-    open: bool,
+}
+
+// What a line asks, by one letter or by two, and what stands behind them.
+#[derive(Clone, Copy)]
+enum Request<'a> {
+    Letter(u8, &'a [u8]),
+    Pair(u8, u8, &'a [u8]),
 }
 
 // Room for what is read, and for tapes.
@@ -139,66 +145,64 @@ fn answer_salvage(letter: u8, asked: &[u8], tape: &mut [u8], out: &mut Output, a
     }
 }
 
-fn is_capital(c: u8) -> bool {
-    b'A' <= c && c <= b'Z'
-}
-
-// How many letters a line is asked by: one capital before a space or two, in a line that is not too long. Of one that is not asked, none.
-fn letters_of(line: &[u8]) -> usize {
-    if line.len() < 2 || MOST < line.len() {
-        return 0;
+// What a line asks: one capital before a space or two, in a line that is not too long.
+fn asked_by(line: &[u8]) -> Option<Request<'_>> {
+    if MOST < line.len() {
+        return None;
     }
-    if !is_capital(line[0]) {
-        return 0;
+    match line {
+        [letter @ b'A'..=b'Z', b' ', asked @ ..] => Some(Request::Letter(*letter, asked)),
+        [case @ b'A'..=b'Z', letter @ b'A'..=b'Z', b' ', asked @ ..] => {
+            Some(Request::Pair(*case, *letter, asked))
+        }
+        _ => None,
     }
-    if line[1] == b' ' {
-        return 1;
-    }
-    if line.len() < 3 || !is_capital(line[1]) {
-        return 0;
-    }
-    if line[2] == b' ' {
-        return 2;
-    }
-    0
 }
 
 // The answer to a line that one letter asks.
 fn answer_letter(
-    line: &[u8],
+    letter: u8,
+    asked: &[u8],
     tape: &mut [u8],
     buffer: &mut [u8],
     blank: &[u8],
     out: &mut Output,
     at: usize,
 ) -> usize {
-    if line.len() < 2 {
-        return at;
-    }
-    let letter = line[0];
-    let asked = &line[2..];
     let next = answer_reading(letter, asked, tape, blank, out, at);
     answer_punching(letter, asked, tape, buffer, out, next)
 }
 
 // The answer to a line that two letters ask.
 fn answer_pair(
-    line: &[u8],
+    case: u8,
+    letter: u8,
+    asked: &[u8],
     tape: &mut [u8],
     buffer: &mut [u8],
     out: &mut Output,
     at: usize,
 ) -> usize {
-    if line.len() < 3 {
-        return at;
-    }
-    let letter = line[1];
-    let asked = &line[3..];
-    match line[0] {
+    match case {
         b'I' => answer_index(letter, asked, tape, buffer, out, at),
         b'C' => answer_corrections(letter, asked, tape, buffer, out, at),
         b'S' => answer_salvage(letter, asked, tape, out, at),
         _ => at,
+    }
+}
+
+// The answer to what a line asks.
+fn answer(
+    asked: Request<'_>,
+    tape: &mut [u8],
+    buffer: &mut [u8],
+    blank: &[u8],
+    out: &mut Output,
+    at: usize,
+) -> usize {
+    match asked {
+        Request::Letter(letter, text) => answer_letter(letter, text, tape, buffer, blank, out, at),
+        Request::Pair(case, letter, text) => answer_pair(case, letter, text, tape, buffer, out, at),
     }
 }
 
@@ -213,16 +217,13 @@ fn run_line(
     start: usize,
 ) -> usize {
     let at = put_all(out, start, line);
-    let letters = letters_of(line);
-    if plain || letters == 0 {
-        return put(out, at, b'\n');
-    }
-    let arrow = put_all(out, at, b" ->");
-    if letters == 1 {
-        let end = answer_letter(line, tape, buffer, blank, out, arrow);
-        return put(out, end, b'\n');
-    }
-    let end = answer_pair(line, tape, buffer, out, arrow);
+    let end = match asked_by(line) {
+        Some(asked) if !plain => {
+            let arrow = put_all(out, at, b" ->");
+            answer(asked, tape, buffer, blank, out, arrow)
+        }
+        _ => at,
+    };
     put(out, end, b'\n')
 }
 
@@ -240,6 +241,7 @@ fn run_lines(
     let mut at = 0;
     let mut from = 0;
     let mut plain = long;
+    // No `for`: lines differ in length.
     while from < read.len() {
         let lf = find_byte(read, from, read.len(), b'\n');
         if read.len() <= lf {
@@ -284,20 +286,13 @@ fn read_more<R: Read>(from: &mut R, input: &mut [u8], held: usize) -> io::Result
 fn move_front(input: &mut [u8], from: usize, to: usize) -> usize
     ensures { result ≤ length input.new }
 {
-    let mut n = 0;
-    let mut i = from;
-    while i < to {
-        if input.len() <= i || input.len() <= n {
-            return n;
-        }
-        input[n] = input[i];
-        n += 1;
-        i += 1;
-    }
-    n
+    let end = to.min(input.len());
+    let start = from.min(end);
+    input.copy_within(start..end, 0);
+    end - start
 }
 
-// Reads once and answers what lines that ends; at the end of the input the last line, which may lack its LF.
+// Reads once and answers what lines that ends; at the end of the input the last line, which may lack its LF, and nothing is held behind it.
 fn take_turn<R: Read>(
     from: &mut R,
     held: Held,
@@ -306,31 +301,23 @@ fn take_turn<R: Read>(
     buffer: &mut [u8],
     blank: &[u8],
     out: &mut Output,
-) -> io::Result<Held> {
+) -> io::Result<Option<Held>> {
     let bytes = held.bytes;
     let long = held.long;
     let n = read_more(from, input, bytes)?;
     if n <= bytes {
         run_last(&input[0..n], long, tape, buffer, blank, out);
-        return Ok(Held {
-            bytes: 0,
-            long: false,
-            open: false,
-        });
+        return Ok(None);
     }
     let rest = run_lines(&input[0..n], long, tape, buffer, blank, out);
     let kept = move_front(input, rest, n);
-    Ok(hold(input, kept, long && rest == 0, out))
+    Ok(Some(hold(input, kept, long && rest == 0, out)))
 }
 
 // What is held of a line that has begun: nothing of one that is too long, which is written as it comes.
 fn hold(input: &[u8], bytes: usize, long: bool, out: &mut Output) -> Held {
     if !long && bytes <= MOST {
-        return Held {
-            bytes,
-            long: false,
-            open: true,
-        };
+        return Held { bytes, long: false };
     }
     if bytes <= input.len() {
         write_bytes(out, &input[0..bytes]);
@@ -338,7 +325,6 @@ fn hold(input: &[u8], bytes: usize, long: bool, out: &mut Output) -> Held {
     Held {
         bytes: 0,
         long: true,
-        open: true,
     }
 }
 
@@ -354,16 +340,13 @@ fn run_all<R: Read>(
     let mut held = Held {
         bytes: 0,
         long: false,
-        open: true,
     };
-    let mut turns = u64::MAX;
-    while 0 < turns {
-        turns -= 1;
+    for _ in 0..u64::MAX {
         let next = take_turn(from, held, input, tape, buffer, blank, out)?;
         out.outcome()?;
-        if !next.open {
+        let Some(next) = next else {
             return Ok(());
-        }
+        };
         held = next;
     }
     Ok(())

@@ -1,27 +1,22 @@
 // Cases of the crate punching.
 ghost use Rattle.std.specs.Prelude.{◌≤◌, length};
 
-use crate::answers::{Output, put_all, put_counted, put_number, put_refused, put_rows, put_value};
-use crate::asked::{
-    behind_profile, fill, integer, narrow, number, profile_of, rest, room_in, rows_of, shorthand_of,
-};
+use crate::answers::{Output, put_all, put_counted, put_number, put_rows};
+use crate::asked::{behind_profile, fill, integer, number, rest, room_in, rows_of, terms_of};
 use crate::block_cases::{count_under, read_under};
 use crate::records::record_of;
-use punching::{Measured, Punched};
 use reading::Block;
-use rows::Checked;
+use reading::records::empty_block;
+use rows::Refusal;
 
-// How many rows were written.
-fn put_written(out: &mut Output, at: usize, answer: Punched) -> usize {
-    match answer {
-        Punched::Rows(n) => put_value(out, at, n as u64),
-        Punched::Refused(r) => put_refused(out, at, r),
-    }
-}
-
-// The same, and the whole buffer.
-fn put_punched(out: &mut Output, at: usize, answer: Punched, buffer: &[u8]) -> usize {
-    let next = put_written(out, at, answer);
+// How many rows were written, and the whole buffer.
+fn put_punched(
+    out: &mut Output,
+    at: usize,
+    answer: Result<usize, Refusal>,
+    buffer: &[u8],
+) -> usize {
+    let next = put_counted(out, at, answer);
     put_rows(out, next, buffer)
 }
 
@@ -36,10 +31,7 @@ pub fn head(asked: &[u8], buffer: &mut [u8], out: &mut Output, at: usize) -> usi
 // U: how many rows a record needs.
 pub fn measure(asked: &[u8], out: &mut Output, at: usize) -> usize {
     let block = record_of(behind_profile(asked));
-    match punching::measure_block(narrow(asked), shorthand_of(asked), profile_of(asked), block) {
-        Measured::Rows(n) => put_value(out, at, n as u64),
-        Measured::Refused(r) => put_refused(out, at, r),
-    }
+    put_counted(out, at, punching::measure_block(&terms_of(asked), block))
 }
 
 // V: a record written.
@@ -49,9 +41,7 @@ pub fn write(asked: &[u8], buffer: &mut [u8], out: &mut Output, at: usize) -> us
     let room = room_in(buffer, lent);
     fill(&mut buffer[0..room], number(first), 1);
     let answer = punching::write_block(
-        narrow(asked),
-        shorthand_of(asked),
-        profile_of(asked),
+        &terms_of(asked),
         record_of(rest(first)),
         &mut buffer[0..room],
     );
@@ -59,14 +49,8 @@ pub fn write(asked: &[u8], buffer: &mut [u8], out: &mut Output, at: usize) -> us
 }
 
 // A record under the edition, the shorthand and the profile that are asked.
-fn punch_under(asked: &[u8], block: Block, buffer: &mut [u8]) -> Punched {
-    punching::punch_block(
-        narrow(asked),
-        shorthand_of(asked),
-        profile_of(asked),
-        block,
-        buffer,
-    )
+fn punch_under(asked: &[u8], block: Block, buffer: &mut [u8]) -> Result<usize, Refusal> {
+    punching::punch_block(&terms_of(asked), block, buffer)
 }
 
 // J: a record.
@@ -92,7 +76,7 @@ pub fn again(
     let wanted = rest(lent);
     let n = rows_of(rest(wanted), tape);
     let read = read_under(asked, &tape[0..n], number(wanted) as usize);
-    let block = read.block;
+    let block = read.unwrap_or(empty_block());
     let room = room_in(buffer, lent);
     fill(&mut buffer[0..room], 0, 0);
     let answer = punch_under(asked, block, &mut buffer[0..room]);
@@ -100,12 +84,12 @@ pub fn again(
 }
 
 // As many rows as were punched, if they are within the room.
-fn rows_punched(answer: Punched, room: usize) -> usize
+fn rows_punched(answer: Result<usize, Refusal>, room: usize) -> usize
     ensures { result ≤ room }
 {
     match answer {
-        Punched::Rows(n) => { if n <= room { n } else { 0 } }
-        Punched::Refused(_) => 0,
+        Ok(n) => { if n <= room { n } else { 0 } }
+        Err(_) => 0,
     }
 }
 
@@ -126,15 +110,10 @@ fn punch_all(asked: &[u8], tape: &[u8], punched: &mut [u8]) -> usize
     let room = punched.len();
     let answer = punching::punch_head(punched);
     let mut at = rows_punched(answer, room);
-    let mut n: usize = 0;
-    while n < 100 {
-        let read = read_under(asked, tape, n);
-        n += 1;
-        let block = read.block;
-        let outcome = read.outcome;
-        if let Checked::Refused(_) = outcome {
+    for n in 0..100 {
+        let Ok(block) = read_under(asked, tape, n) else {
             return at;
-        }
+        };
         at = punch_at(asked, block, punched, at);
     }
     at

@@ -10,14 +10,12 @@ use words::{Value, Word};
 
 // What stands behind the digits at the front of a text.
 fn behind_digits(text: &[u8]) -> &[u8] {
-    let mut i = 0;
-    while i < text.len() {
-        if 9 < digit_of(text[i]) {
+    for (i, c) in text.iter().enumerate() {
+        if digit_of(*c).is_none() {
             return &text[i..];
         }
-        i += 1;
     }
-    &text[i..]
+    &text[text.len()..]
 }
 
 // A value, with its kind before it.
@@ -50,12 +48,9 @@ fn word_of(text: &[u8]) -> Word {
 fn with_words(block: Block, text: &[u8]) -> Block {
     let mut next = block;
     let mut at: usize = 0;
-    let mut i: usize = 0;
-    while i < 22 {
-        let word = word_of(part(&text[at..]));
-        next.words[i] = word;
+    for place in next.words.iter_mut() {
+        *place = word_of(part(&text[at..]));
         at = next_part(text, at);
-        i += 1;
     }
     next
 }
@@ -82,23 +77,15 @@ pub fn record_of(text: &[u8]) -> Block {
 }
 
 fn is_cleared(word: Word) -> bool {
-    let value = word.value;
-    match value {
-        Value::Number(v) => word.letter == 0 && v == 0,
-        Value::Dimension(_) => false,
-        Value::Speed(_) => false,
-    }
+    word.letter == 0 && matches!(word.value, Value::Number(0))
 }
 
 // How many places are written: those of the count, and behind it up to the last that is not cleared.
 fn places_written(block: Block) -> usize {
     let mut most = block.count;
-    let mut i: usize = 0;
-    while i < 22 {
-        let word = block.words[i];
-        i += 1;
-        if most < i && !is_cleared(word) {
-            most = i;
+    for (i, word) in block.words.iter().enumerate() {
+        if most <= i && !is_cleared(*word) {
+            most = i + 1;
         }
     }
     most
@@ -145,13 +132,10 @@ fn put_word(out: &mut Output, start: usize, word: Word) -> usize {
 }
 
 fn put_words(out: &mut Output, start: usize, block: Block) -> usize {
-    let most = places_written(block);
+    let most = places_written(block).min(22);
     let mut at = start;
-    let mut i: usize = 0;
-    while i < 22 && i < most {
-        let word = block.words[i];
-        at = put_word(out, at, word);
-        i += 1;
+    for word in &block.words[..most] {
+        at = put_word(out, at, *word);
     }
     at
 }

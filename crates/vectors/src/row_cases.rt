@@ -1,10 +1,6 @@
 // Cases of the crate rows, and of the head.
-use crate::answers::{
-    Output, put, put_all, put_checked, put_decimal, put_number, put_refused, put_value,
-};
+use crate::answers::{Output, put, put_all, put_counted, put_decimal, put_number, put_outcome};
 use crate::asked::{byte, number, rows_of};
-use parts::EndRead;
-use rows::Next;
 
 // E: the table's entry of a row, and its holes by the count.
 pub fn entry(asked: &[u8], out: &mut Output, at: usize) -> usize {
@@ -19,37 +15,33 @@ pub fn entry(asked: &[u8], out: &mut Output, at: usize) -> usize {
 // R: the first three stages.
 pub fn stages(asked: &[u8], tape: &mut [u8], out: &mut Output, at: usize) -> usize {
     let n = rows_of(asked, tape);
-    put_checked(out, at, rows::check(&tape[0..n]))
+    put_outcome(out, at, &rows::check(&tape[0..n]))
 }
 
 // M: the first three stages of so many NUL rows.
 pub fn many(asked: &[u8], blank: &[u8], out: &mut Output, at: usize) -> usize {
     let n = number(asked);
     if n < blank.len() as u64 {
-        return put_checked(out, at, rows::check(&blank[0..n as usize]));
+        return put_outcome(out, at, &rows::check(&blank[0..n as usize]));
     }
-    put_checked(out, at, rows::check(blank))
+    put_outcome(out, at, &rows::check(blank))
 }
 
 fn put_kept(out: &mut Output, start: usize, tape: &[u8]) -> usize {
     let mut at = start;
     let mut from: usize = 0;
+    // No `for`: each kept row says where the next is looked for.
     while from < tape.len() {
-        let Next::Row {
-            character,
-            place,
-            after,
-        } = rows::next_kept(tape, from)
-        else {
+        let Some(kept) = rows::next_kept(tape, from) else {
             return at;
         };
-        if after <= from {
+        if kept.after <= from {
             return at;
         }
-        let next = put_number(out, at, place as u64);
+        let next = put_number(out, at, kept.place as u64);
         let colon = put(out, next, b':');
-        at = put_decimal(out, colon, character as u64);
-        from = after;
+        at = put_decimal(out, colon, kept.character as u64);
+        from = kept.after;
     }
     at
 }
@@ -63,8 +55,9 @@ pub fn kept(asked: &[u8], tape: &mut [u8], out: &mut Output, at: usize) -> usize
 // T: the first three stages and the head.
 pub fn head(asked: &[u8], tape: &mut [u8], out: &mut Output, at: usize) -> usize {
     let n = rows_of(asked, tape);
-    match parts::ends::enter_tape(&tape[0..n]) {
-        EndRead::At(lf, _) => put_value(out, at, lf as u64),
-        EndRead::Refused(r) => put_refused(out, at, r),
-    }
+    put_counted(
+        out,
+        at,
+        parts::ends::enter_tape(&tape[0..n]).map(|end| end.value),
+    )
 }

@@ -1,45 +1,12 @@
 // Cases of the crate salvage.
-use crate::answers::{Output, put_all, put_decimal, put_refused, put_rows, put_value};
-use crate::asked::{behind_profile, narrow, number, part, profile_of, rest, rows_of, shorthand_of};
-use crate::index_cases::{behind_comma, fill_firsts, places_in, put_between, put_firsts};
-use salvage::Salvaged;
+use crate::answers::{Output, put_counted, put_rows};
+use crate::asked::{behind_profile, fill, number, part, rest, rows_of, terms_of};
+use crate::index_cases::{behind_comma, places_in, put_list, put_rows_listed};
+use rows::Refusal;
 
-// The old content of a list of refusals' numbers, as of a buffer.
-fn fill_refusals(numbers: &mut [u32], first: u64) {
-    let mut b = (first % 256) as u32;
-    let mut i: usize = 0;
-    while i < numbers.len() {
-        numbers[i] = b;
-        b = (b + 1) % 256;
-        i += 1;
-    }
-}
-
-fn wide(number: u32) -> u64 {
-    number as u64
-}
-
-// A space and the refusals' numbers; a dot for none.
+// Refusals' numbers.
 fn put_refusals(out: &mut Output, start: usize, numbers: &[u32]) -> usize {
-    if numbers.len() == 0 {
-        return put_all(out, start, b" .");
-    }
-    let mut at = start;
-    let mut i: usize = 0;
-    while i < numbers.len() {
-        let next = put_between(out, at, i);
-        at = put_decimal(out, next, wide(numbers[i]));
-        i += 1;
-    }
-    at
-}
-
-// How many pieces were overpunched.
-fn put_salvaged(out: &mut Output, at: usize, answer: Salvaged) -> usize {
-    match answer {
-        Salvaged::Pieces(n) => put_value(out, at, n as u64),
-        Salvaged::Refused(r) => put_refused(out, at, r),
-    }
+    put_list(out, start, numbers, |n| Some(n as u64))
 }
 
 // A tape saved under the edition, the shorthand and the profile that are asked, with lists whose old content is counted up.
@@ -50,19 +17,11 @@ fn save_under(
     sizes: &mut [usize],
     numbers: &mut [u32],
     first: u64,
-) -> Salvaged {
-    fill_firsts(firsts, first);
-    fill_firsts(sizes, first);
-    fill_refusals(numbers, first);
-    salvage::salvage(
-        narrow(asked),
-        shorthand_of(asked),
-        profile_of(asked),
-        tape,
-        firsts,
-        sizes,
-        numbers,
-    )
+) -> Result<usize, Refusal> {
+    fill(firsts, first, 1);
+    fill(sizes, first, 1);
+    fill(numbers, first, 1);
+    salvage::salvage(&terms_of(asked), tape, firsts, sizes, numbers)
 }
 
 // The same, and what is handed back and left.
@@ -77,10 +36,10 @@ fn save_into(
     at: usize,
 ) -> usize {
     let answer = save_under(asked, tape, firsts, sizes, numbers, first);
-    let lost = put_salvaged(out, at, answer);
+    let lost = put_counted(out, at, answer);
     let rows = put_rows(out, lost, tape);
-    let lists = put_firsts(out, rows, firsts);
-    let next = put_firsts(out, lists, sizes);
+    let lists = put_rows_listed(out, rows, firsts);
+    let next = put_rows_listed(out, lists, sizes);
     put_refusals(out, next, numbers)
 }
 

@@ -1,7 +1,8 @@
 // Cases of the crate shorthand.
-use crate::answers::{Output, put, put_all, put_checked, put_decimal, put_number};
-use crate::asked::{narrow, profile_of, rest, shorthand_of};
-use shorthand::{Figures, Format, Item, Kind, Mark, Missing, Parsed};
+use crate::answers::{Output, put, put_all, put_decimal, put_number, put_refusal};
+use crate::asked::{narrow, rest, terms_of};
+use rows::Refusal;
+use shorthand::{Figures, Format, Item, Kind, Mark, Missing, Usable};
 
 fn put_mark(out: &mut Output, at: usize, mark: Mark) -> usize {
     match mark {
@@ -51,13 +52,9 @@ fn put_item(out: &mut Output, start: usize, item: Item) -> usize {
 }
 
 fn put_items(out: &mut Output, start: usize, format: Format) -> usize {
-    let count = format.count;
     let mut at = start;
-    let mut i: usize = 0;
-    while i < 22 && i < count {
-        let item = format.items[i];
-        at = put_item(out, at, item);
-        i += 1;
+    for item in &format.items[..format.count.min(22)] {
+        at = put_item(out, at, *item);
     }
     at
 }
@@ -80,15 +77,24 @@ fn put_unnumbered(out: &mut Output, at: usize, unnumbered: bool) -> usize {
     at
 }
 
-fn put_parsed(out: &mut Output, at: usize, parsed: Parsed) -> usize {
-    let outcome = parsed.outcome;
-    let format = parsed.format;
-    let sequence = put_checked(out, at, outcome);
+fn put_format(out: &mut Output, at: usize, format: Format) -> usize {
+    let sequence = put_all(out, at, b" 0 0");
     let bare = put_number(out, sequence, format.sequence as u64);
     let dots = put_unnumbered(out, bare, format.unnumbered);
     let count = put_dots(out, dots, format.dots, format.addresses);
     let items = put_number(out, count, format.count as u64);
     put_items(out, items, format)
+}
+
+// A Format, or a refusal with an empty one.
+fn put_parsed(out: &mut Output, at: usize, parsed: Result<Usable, Refusal>) -> usize {
+    match parsed {
+        Ok(usable) => put_format(out, at, usable.format),
+        Err(r) => {
+            let next = put_refusal(out, at, r);
+            put_all(out, next, b" 0 plain 0")
+        }
+    }
 }
 
 // F: the Format of a shorthand under an edition.
@@ -99,6 +105,6 @@ pub fn format(asked: &[u8], out: &mut Output, at: usize) -> usize {
 
 // G: the Format of a shorthand and a profile under an edition.
 pub fn agreed(asked: &[u8], out: &mut Output, at: usize) -> usize {
-    let parsed = profile::parse(narrow(asked), shorthand_of(asked), profile_of(asked));
+    let parsed = profile::parse(&terms_of(asked));
     put_parsed(out, at, parsed)
 }

@@ -1,7 +1,7 @@
 // Cases of the crate speeds, and how a speed is asked and written.
 use crate::answers::{Output, put_all, put_decimal, put_number, put_refused, put_value};
 use crate::asked::{first_of, narrow, number, rest};
-use speeds::{Code, Exact, Speed, SpeedRead};
+use speeds::Speed;
 
 // A speed as it is asked: `stop`, `rapid`, or its units.
 pub fn speed_of(text: &[u8]) -> Speed {
@@ -29,23 +29,23 @@ fn put_said(out: &mut Output, at: usize, speed: Speed) -> usize {
 // S: the speed of a code.
 pub fn speed(asked: &[u8], out: &mut Output, at: usize) -> usize {
     match speeds::speed_of(narrow(asked), number(rest(asked))) {
-        SpeedRead::Is(s) => put_said(out, at, s),
-        SpeedRead::Refused(r) => put_refused(out, at, r),
+        Ok(s) => put_said(out, at, s),
+        Err(r) => put_refused(out, at, r),
     }
 }
 
 // C: the code of a speed.
 pub fn code(asked: &[u8], out: &mut Output, at: usize) -> usize {
     match speeds::code_of(narrow(asked), speed_of(rest(asked))) {
-        Code::Number(c) => put_value(out, at, c),
-        Code::Refused(r) => put_refused(out, at, r),
+        Ok(c) => put_value(out, at, c),
+        Err(r) => put_refused(out, at, r),
     }
 }
 
 // X: the code that means a speed exactly.
 pub fn exact(asked: &[u8], out: &mut Output, at: usize) -> usize {
     match speeds::exact_code(narrow(asked), speed_of(rest(asked))) {
-        Exact::Means(c) => put_number(out, at, c),
-        _ => at,
+        Some(c) => put_number(out, at, c),
+        None => at,
     }
 }

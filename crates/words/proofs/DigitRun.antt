@@ -1,15 +1,15 @@
 -- Laws of a run of digits: one step of it, the number that it makes with missing zeros restored, and the bound of that number.
 use Prim.Native.Nat.{ℕ, zero, suc, ◌+◌, ◌-◌, ◌*◌, ◌^◌, ◌≤◌, ◌<◌}
-use mathlib.Core.Path.{◌≡◌, refl, ap, ◌∙◌, subst}
+use mathlib.Core.Path.{◌≡◌, refl, ◌∙◌, subst}
 use mathlib.Core.Bool.{true, false, ◌&&◌, not}
 use mathlib.Core.List.{List, [], ◌∷◌}
-use native.Mathlib.Nat.{pow-suc, pow-succ', mul_comm, mul_assoc, mul-lt-mul_of_pos_right, lt_of_lt_of_le}
+use native.Mathlib.Nat.{pow-suc, mul_comm, mul-lt-mul_of_pos_right, lt_of_lt_of_le}
 use native.Mathlib.Numerals.{add-one}
 use native.Mathlib.Omega.{arith}
 use borrow.Author.Tests.{le-leb, lt-leb}
 use lib.Arith.{digits_lt}
 use lib.Dec.{T, leb, leb→le, lit<}
-use Rattle.rows.specs.declared.Refusal.{Refusal}
+use Rattle.rows.specs.declared.refusals.Refusal.{Refusal}
 use Rattle.rows.specs.Answer.{Answer, taken, refused, refusal}
 use Rattle.rows.specs.Kept.{KeptRow}
 use Rattle.shorthand.specs.declared.Missing.{Missing}
@@ -22,9 +22,6 @@ use Rattle.words.specs.Figures.{Behind, taking, wrong, behind, is_digit, digit_n
 use Rattle.words.proofs.Wrong.{wrong-any}
 
 -- ---- one step
-
-pub digit : (c : ℕ) → 48 ≤ c → c ≤ 57 → is_digit c ≡ true
-digit c l h = rw (le-leb 48 c l, le-leb c 57 h)
 
 pub run-stops : (m v k : ℕ) (rs : List KeptRow) → digit_next rs ≡ false → run m v k rs ≡ record { number = v; count = k; rest = rs }
 unfolding run
@@ -74,10 +71,6 @@ restored-below Nothing n q b = lt_of_lt_of_le b.small (ten-grows b.few)
 restored-below Leading n q b = lt_of_lt_of_le b.small (ten-grows b.few)
 restored-below Trailing n q b =
     rw (ten-split b.few, mul_comm (10 ^ (n - q.count)) (10 ^ q.count)) (mul-lt-mul_of_pos_right b.small (ten-positive (n - q.count)))
-
--- one zero more behind the number, and one less to come
-pub one-zero : (v k : ℕ) → 0 < k → v * 10 * 10 ^ (k - 1) ≡ v * 10 ^ k
-one-zero v k h = rw (mul_assoc v 10 (10 ^ (k - 1)), ← pow-succ' 10 (k - 1)) (ap (λ (n : ℕ). v * 10 ^ n) (omega arith))
 
 -- ---- the digits of a number, by the run that was read
 

@@ -2,7 +2,7 @@
 use Prim.Native.Nat.{ℕ}
 use mathlib.Core.Path.{◌≡◌, refl, ap, ◌∙◌}
 use mathlib.Core.List.{List, [], ◌∷◌}
-use Rattle.rows.specs.declared.Refusal.{Refusal}
+use Rattle.rows.specs.declared.refusals.Refusal.{Refusal}
 use Rattle.rows.specs.Answer.{refusal, ◌>>◌}
 use Rattle.rows.specs.Kept.{KeptRow}
 use Rattle.words.specs.declared.Wanted.{Wanted}

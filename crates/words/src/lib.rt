@@ -1,10 +1,12 @@
 // Words: what stands behind an address, the sign and the digits, and what they mean by the item's kind.
 #![tactic(auto)]
 
+ghost use Rattle.std.specs.Prelude.{◌^◌, ◌<◌};
+
 pub mod datum;
 pub mod figures;
 
-use rows::{Next, Refusal};
+use rows::Kept;
 use shorthand::Missing;
 use speeds::Speed;
 
@@ -40,49 +42,24 @@ pub enum Wanted {
     Digits,
 }
 
-// ---- what the parsers answer: a value with the next kept row, or a refusal
+// A value that a parser took, and the next kept row.
+#[derive(Clone, Copy)]
+pub struct Read<T> {
+    pub value: T,
+    pub front: Option<Kept>,
+}
 
+// A number, and how many digits it had.
 #[derive(Clone, Copy)]
 pub struct Digits {
     pub number: u64,
     pub count: usize,
-    pub front: Next,
+    ghost small: { number < 10 ^ count },
 }
 
-// Digits one right behind another: the number and how many they make with those before, and the place behind them.
+// Digits one right behind another, with those before, and the place behind them.
 #[derive(Clone, Copy)]
 pub struct Stretch {
-    pub number: u64,
-    pub count: usize,
+    pub digits: Digits,
     pub at: usize,
-}
-
-#[derive(Clone, Copy)]
-pub enum FiguresRead {
-    Number(u64, Next),
-    Refused(Refusal),
-}
-
-#[derive(Clone, Copy)]
-pub enum SignRead {
-    Minus(bool),
-    Refused(Refusal),
-}
-
-#[derive(Clone, Copy)]
-pub enum Meant {
-    Is(Value),
-    Refused(Refusal),
-}
-
-#[derive(Clone, Copy)]
-pub enum DataRead {
-    Is(Value, Next),
-    Refused(Refusal),
-}
-
-#[derive(Clone, Copy)]
-pub enum WordRead {
-    Is(Word, Next),
-    Refused(Refusal),
 }

@@ -1,12 +1,8 @@
 -- `index::find_number`: a loop over the numbers to the first that is the one asked for.
-use Prim.Native.Nat.{◌-◌}
 use mathlib.Core.Path.{◌≡◌}
-use lib.ListN.{length, drop}
+use lib.ListN.{drop}
 use Rattle.index.specs.Finding.{first_at}
 use Rattle.index.proofs.find_number.Given as goal
 
 abbrev pub invariant-loop-n : goal.invariant-loop-n
 invariant-loop-n l = first_at l.sequence 0 l.numbers ≡ first_at l.sequence l.n (drop l.n l.numbers)
-
-abbrev pub decreases-loop-n : goal.decreases-loop-n
-decreases-loop-n l = length l.numbers - l.n

@@ -1,27 +1,22 @@
--- `index::indexed_rows`: where the part stands is known, and it stands within the tape.
+-- `index::indexed_rows`: where the block was found, its rows stand within the tape.
 use Prim.Native.Nat.{◌≤◌}
-use mathlib.Core.Path.{ap}
-use native.Mathlib.Omega.{arith}
 use lib.ListN.{length}
 use Rattle.index.proofs.EntryTests.{found_within}
 use Rattle.index.proofs.indexed_rows.Goals as goal
-use Rattle.index.proofs.indexed_rows.Goals.{After-place_of}
+use Rattle.index.proofs.indexed_rows.Goals.{In_ok-found}
 
--- the part stands within the tape
-within : (c : After-place_of) →
-    let part = c.find_indexed-found.result.part in
-    (part.from ≤ part.to) × (part.to ≤ length c.args.tape.now)
+within : (c : In_ok-found) →
+    let found = c.in_ok-found.found in
+    (found.from ≤ found.to) × (found.to ≤ length c.args.tape.now)
 within c =
     let a = c.args in
-    let p = c.find_indexed-found.ensures.part in
-    let w = found_within a.edition a.text.now a.profile.now a.tape.now a.firsts.now a.n in
-    (omega (arith, ap (λ x. x.from) p, ap (λ x. x.to) p, w.0), omega (arith, ap (λ x. x.to) p, w.1))
+    found_within a.terms.now.edition a.terms.now.shorthand.now a.terms.now.profile.now a.tape.now a.firsts.now a.n _ c.in_ok-found.ensures
 
 pub slice_bounds-result-count : goal.slice_bounds-result-count
-slice_bounds-result-count c = (within (goal.at.slice_bounds-result-count c).After-place_of).0
+slice_bounds-result-count c = (within (goal.at.slice_bounds-result-count c).In_ok-found).0
 
 pub slice_bounds-result-start : goal.slice_bounds-result-start
-slice_bounds-result-start c = (within (goal.at.slice_bounds-result-start c).After-place_of).0
+slice_bounds-result-start c = (within (goal.at.slice_bounds-result-start c).In_ok-found).0
 
 pub slice_bounds-result-end : goal.slice_bounds-result-end
-slice_bounds-result-end c = (within (goal.at.slice_bounds-result-end c).After-place_of).1
+slice_bounds-result-end c = (within (goal.at.slice_bounds-result-end c).In_ok-found).1

@@ -3,4 +3,4 @@ use Rattle.lines.proofs.Printing.{in-room}
 use Rattle.lines.proofs.last_line.Goals as goal
 
 pub returns-clause-buffer : goal.returns-clause-buffer
-returns-clause-buffer c = let k = c.put_closing-size.ensures in (in-room k.put k.end c.if-buffer-size.false c.put_all.ensures).1.0
+returns-clause-buffer c = in-room c.put_closing-size.ensures.put c.put_closing-size.ensures.end c.if-buffer-size.false c.put_all.ensures

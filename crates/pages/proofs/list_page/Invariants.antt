@@ -6,8 +6,8 @@ use Rattle.reading.proofs.StepLaws.{effort}
 use Rattle.pages.proofs.Paging.{Pages}
 use Rattle.pages.proofs.list_page.Given as goal
 
-abbrev pub invariant-loop-b : goal.invariant-loop-b
-invariant-loop-b l = Pages (length l.tape) l.format l.from (kept_at l.tape l.from) l.initial.buffer (spot_told l.tape l.cursor) l.sheet l.buffer l.line l.used
+abbrev pub invariant-loop-step : goal.invariant-loop-step
+invariant-loop-step l = Pages (length l.tape) l.fn.usable.format l.from (kept_at l.tape l.from) l.initial.buffer (spot_told l.tape l.cursor) l.sheet l.buffer l.line l.used
 
-abbrev pub decreases-loop-b : goal.decreases-loop-b
-decreases-loop-b l = effort (length l.tape) l.sheet.next l.cursor.stage l.cursor.item
+abbrev pub decreases-loop-step : goal.decreases-loop-step
+decreases-loop-step l = effort (length l.tape) l.sheet.next l.cursor.stage l.cursor.item

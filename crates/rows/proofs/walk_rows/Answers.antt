@@ -1,18 +1,19 @@
 -- `rows::walk_rows` meets its contract: from row next on, with what is held, it is answered as the whole tape is.
-use mathlib.Core.Path.{◌∙◌, sym, subst}
-use Prim.Native.Nat.{◌-◌}
-use Rattle.rows.specs.Walk.{Marked}
-use Rattle.rows.specs.declared.Mark.TheVariants.{At}
+use mathlib.Core.Path.{◌∙◌, sym, ap}
+use Rattle.rows.specs.Answer.{refusal}
 use Rattle.rows.proofs.StageOrder.{held-odd, held-behind}
 use Rattle.rows.proofs.walk_rows.Goals as goal
-use Rattle.rows.proofs.walk_rows.Goals.{In-At}
 
-mark : (c : In-At)
-    → Marked c.args.tape.now c.loop-place.held c.loop-place.next (At c.in-At.place c.in-At.entry)
-mark c = subst (Marked _ _ _) c.in-At.is c.find_mark.ensures
+pub returns-then-mark : goal.returns-then-mark
+returns-then-mark c =
+    ap refusal c.at.ensures
+    ∙ sym
+    (c.loop-mark.invariant
+    ∙ c.in-Some.ensures.3
+    ∙ held-odd _ _ c.in-Some.ensures.1 _ c.in-Some.ensures.2 c.if-mark.true c.loop-mark.held)
 
-pub returns-then-entry : goal.returns-then-entry
-returns-then-entry c = sym (c.loop-place.invariant ∙ (mark (goal.at.returns-then-entry c).In-At).3 ∙ held-odd _ _ (mark (goal.at.returns-then-entry c).In-At).1 _ (mark (goal.at.returns-then-entry c).In-At).2 c.if-entry.true c.loop-place.held)
-
-pub loop-place-preserved : goal.loop-place-preserved
-loop-place-preserved c = c.loop-place.invariant ∙ (mark (goal.at.loop-place-preserved c).In-At).3 ∙ held-behind _ _ (mark (goal.at.loop-place-preserved c).In-At).1 _ (mark (goal.at.loop-place-preserved c).In-At).2 c.if-entry.false c.loop-place.held _ c.hold_mark-held.ensures
+pub loop-mark-preserved : goal.loop-mark-preserved
+loop-mark-preserved c =
+    c.loop-mark.invariant
+    ∙ c.in-Some.ensures.3
+    ∙ held-behind _ _ c.in-Some.ensures.1 _ c.in-Some.ensures.2 c.if-mark.false c.loop-mark.held _ c.hold_mark-held.ensures

@@ -7,8 +7,8 @@ use Rattle.rows.specs.declared.Held.TheVariants.{Sides}
 use Rattle.rows.specs.declared.Side.TheVariants.{Outside}
 use Rattle.rows.proofs.walk_rows.Given as goal
 
-abbrev pub invariant-loop-place : goal.invariant-loop-place
-invariant-loop-place l = held_from (Sides Outside) 0 l.tape ≡ held_from l.held l.next (drop l.next l.tape)
+abbrev pub invariant-loop-mark : goal.invariant-loop-mark
+invariant-loop-mark l = held_from (Sides Outside) 0 l.tape ≡ held_from l.held l.next (drop l.next l.tape)
 
-abbrev pub decreases-loop-place : goal.decreases-loop-place
-decreases-loop-place l = length l.tape - l.next
+abbrev pub decreases-loop-mark : goal.decreases-loop-mark
+decreases-loop-mark l = length l.tape - l.next

@@ -1,30 +1,38 @@
 -- `shorthand::parse` meets its contract: the edition, the N item as it is found, and then the items.
-use mathlib.Core.Path.{◌≡◌, ◌∙◌}
-use native.Mathlib.Omega.{arith}
-use Rattle.shorthand.specs.Parse.{parsed_in, parsed}
-use Rattle.shorthand.proofs.Walk.{Opened, parsed-unknown, parsed-known, parsed-opens, says_of}
+use mathlib.Core.Path.{◌≡◌, sym}
+use Rattle.std.specs.Prelude.{Ok, Err}
+use Rattle.rows.specs.Answer.{taken}
+use Rattle.std.proofs.lemmas.Result.{err_from_is_err_and}
+use Rattle.shorthand.specs.Parse.{parsed}
+use Rattle.shorthand.proofs.Walk.{parsed-opens}
+use Rattle.shorthand.proofs.Fairness.{accepted-facts}
 use Rattle.shorthand.proofs.parse.Goals as goal
-use Rattle.shorthand.proofs.parse.Goals.{After-sequence_at, Joined-edition, in-1057, in-2539}
+use Rattle.shorthand.proofs.parse.Goals.{In_ok-format}
 
-by-edition : (c : Joined-edition)
-    → let a = c.args in
-    parsed a.edition a.text.now ≡ parsed_in c.match-edition.known a.text.now
-by-edition c = parsed-known c.match-edition.known _ _ (elim c.match-edition.branch [ in-1057 w ↦ rw w.known-is w.in-1057.is | in-2539 w ↦ rw w.known-is w.in-2539.is ])
+pub returns-in_err-edition : goal.returns-in_err-edition
+unfolding parsed
+returns-in_err-edition c =
+    let p = err_from_is_err_and c.from_residual.result c.from_residual.ensures.1 in
+    rw (p.1, p.2, ← c.in_err-edition.ensures)
 
-opened : (c : After-sequence_at) → Opened c.match-edition.known c.args.text.now c.sequence_at.result
-opened c = parsed-opens _ _ c.sequence_at.result c.sequence_at.ensures
+pub returns-in_err-sequence : goal.returns-in_err-sequence
+unfolding parsed
+returns-in_err-sequence c =
+    let p = err_from_is_err_and c.from_residual-in_err-sequence.result c.from_residual-in_err-sequence.ensures.1 in
+    rw (p.1, p.2, ← c.in_ok-edition.ensures, parsed-opens _ _ (Err c.in_err-sequence.field-0.0) c.in_err-sequence.ensures)
 
-pub returns-in_default : goal.returns-in_default
-returns-in_default c =
-    let all = says_of c.refuse.result (parsed-unknown c.args.edition c.args.text.now (λ q. omega arith) (λ q. omega arith)) c.refuse.ensures in
-    record { outcome = all.0; format = all.1 }
+pub returns-in_err-format : goal.returns-in_err-format
+unfolding parsed
+returns-in_err-format c =
+    let p = err_from_is_err_and c.from_residual-in_err-format.result c.from_residual-in_err-format.ensures.1 in
+    rw (p.1, p.2, ← c.in_ok-edition.ensures, parsed-opens _ _ (Ok c.in_ok-sequence.sequence) c.in_ok-sequence.ensures) c.in_err-format.ensures
 
-pub returns-in-Whole : goal.returns-in-Whole
-returns-in-Whole c =
-    let all = says_of c.read_items.result (by-edition (goal.at.returns-in-Whole c).Joined-edition ∙ rw c.in-Whole.is at (opened (goal.at.returns-in-Whole c).After-sequence_at)) c.read_items.ensures in
-    record { outcome = all.0; format = all.1 }
+given : (c : In_ok-format) → parsed c.args.edition c.args.text.now ≡ taken c.in_ok-format.format
+unfolding parsed
+given c = rw (← c.in_ok-edition.ensures, parsed-opens _ _ (Ok c.in_ok-sequence.sequence) c.in_ok-sequence.ensures) (sym c.in_ok-format.ensures)
 
-pub returns-in-Refused : goal.returns-in-Refused
-returns-in-Refused c =
-    let all = says_of c.refuse-in-Refused.result (by-edition (goal.at.returns-in-Refused c).Joined-edition ∙ rw c.in-Refused.is at (opened (goal.at.returns-in-Refused c).After-sequence_at)) c.refuse-in-Refused.ensures in
-    record { outcome = all.0; format = all.1 }
+pub invariant_of-result : goal.invariant_of-result
+invariant_of-result c = record { facts = accepted-facts _ _ _ (given c) }
+
+pub returns : goal.returns
+returns c = sym (given (goal.at.returns c).In_ok-format)

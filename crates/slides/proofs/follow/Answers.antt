@@ -1,22 +1,8 @@
--- `slides::follow`: by what the shorthand and the profile answered.
-use mathlib.Core.Path.{◌∙◌, sym, ap}
-use Rattle.rows.specs.Answer.{told}
-use Rattle.reading.proofs.Numbered.{settled-facts}
-use Rattle.slides.proofs.FollowedTapes.{after-refused, after-under}
+-- `slides::follow`: by what the shorthand and the profile agree on, which has the facts of a Format.
+use mathlib.Core.Path.{sym}
+use Rattle.slides.specs.Answers.{slides_after}
 use Rattle.slides.proofs.follow.Goals as goal
 
-pub returns-in-Refused : goal.returns-in-Refused
-returns-in-Refused c =
-    let all = after-refused c.args.edition c.args.text.now c.args.profile.now c.args.tape.now c.args.n c.args.travel c.args.slashed _ _ _ (sym c.parse-parsed.ensures.outcome ∙ ap told c.in-Refused.is) c.no_slides.ensures in
-    record { outcome = all.0; slides = all.1 }
-
-pub rule_of-rule-requires : goal.rule_of-rule-requires
-rule_of-rule-requires c = settled-facts _ _ _ _ c.parse-parsed.ensures.format (sym c.parse-parsed.ensures.outcome ∙ ap told c.in_default.is)
-
-pub follow_under-requires : goal.follow_under-requires
-follow_under-requires c = settled-facts _ _ _ _ c.parse-parsed.ensures.format (sym c.parse-parsed.ensures.outcome ∙ ap told c.in_default.is)
-
 pub returns : goal.returns
-returns c =
-    let all = after-under c.args.edition c.args.text.now c.args.profile.now c.args.tape.now c.args.n c.args.travel c.args.slashed _ _ c.parse-parsed.ensures.format (sym c.parse-parsed.ensures.outcome ∙ ap told c.in_default.is) _ c.rule_of-rule.ensures c.follow_under.ensures in
-    record { outcome = all.0; slides = all.1 }
+unfolding slides_after
+returns c = rw (sym c.in_ok-usable.ensures, sym c.rule_of-rule.ensures) c.follow_under.ensures

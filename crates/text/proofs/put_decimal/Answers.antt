@@ -1,14 +1,8 @@
--- `text::put_decimal` meets its contract: the fewest digits that hold a number are those of plain decimal, and 20 hold every number.
-use Rattle.std.proofs.Common.{arith}
+-- `text::put_decimal` meets its contract: the fewest digits that hold a number are those of plain decimal.
+use Rattle.std.proofs.Common.{◌∙◌}
 use Rattle.text.proofs.Puts.{put_as}
-use Rattle.text.proofs.Decimals.{few, plain, digits-length}
+use Rattle.text.proofs.Decimals.{plain}
 use Rattle.text.proofs.put_decimal.Goals as goal
 
-pub put_digits-requires : goal.put_digits-requires
-put_digits-requires c = omega (arith, few _ _ c.count_digits.ensures c.ranges.v.fits)
-
 pub returns-clause-put : goal.returns-clause-put
-returns-clause-put c = put_as (plain _ _ c.count_digits.ensures c.ranges.v.fits) c.put_digits.ensures
-
-pub returns-clause-end : goal.returns-clause-end
-returns-clause-end c = omega (arith, c.put_digits.ensures.end, few _ _ c.count_digits.ensures c.ranges.v.fits, digits-length c.count_digits.result c.args.v)
+returns-clause-put c = put_as (c.decimal-k.ensures.digits ∙ plain _ _ c.decimal-k.ensures.len c.ranges.v.fits) c.put_all.ensures

@@ -1,14 +1,19 @@
--- `text::put_full` meets its contract: more digits than the fewest are zeros in front.
-use Rattle.std.proofs.Common.{arith}
-use Rattle.text.proofs.Puts.{put_as}
-use Rattle.text.proofs.Decimals.{few, filled, digits-length}
+-- `text::put_full` meets its contract: zeros, and then the fewest digits that hold the number.
+use Rattle.std.proofs.Common.{◌≡◌, ◌+◌, ◌-◌, ◌∙◌, ap, length, take, drop, arith, length-take, length-drop}
+use Rattle.std.proofs.Math.ListN.{length-replicate}
+use Rattle.reading.specs.Relation.{zeros}
+use Rattle.text.proofs.Puts.{put_part, put-more, put_as}
+use Rattle.text.proofs.Decimals.{few, filled}
 use Rattle.text.proofs.put_full.Goals as goal
 
-pub put_digits-requires : goal.put_digits-requires
-put_digits-requires c = omega (arith, c.greater.ensures, few _ _ c.count_digits.ensures c.ranges.v.fits)
-
 pub returns-clause-put : goal.returns-clause-put
-returns-clause-put c = put_as (rw c.greater.ensures (filled c.args.n _ _ c.count_digits.ensures c.ranges.v.fits)) c.put_digits.ensures
-
-pub returns-clause-end : goal.returns-clause-end
-returns-clause-end c = omega (arith, c.put_digits.ensures.end, c.greater.ensures, few _ _ c.count_digits.ensures c.ranges.v.fits, digits-length c.greater.result c.args.v)
+returns-clause-put c =
+    let d = c.decimal-k.ensures in
+    let few = few _ _ d.len c.ranges.v.fits in
+    let j = c.saturating_sub.result in
+    let less : j ≡ c.args.n - c.decimal-k.result = c.saturating_sub.ensures in
+    let at = c.args.at in
+    let long : length (zeros j) ≡ j = length-replicate j 48 in
+    let part : length (take (at + j - at) (drop at c.args.line.now)) ≡ j = omega (arith, length-take (at + j - at) (drop at c.args.line.now), length-drop at c.args.line.now) in
+    let front = put_part c.args.line.now (zeros j) c.fill.new.self at (at + j) (omega arith) (c.fill.ensures.after (λ y h. h) ∙ ap zeros part) (omega arith) in
+    put_as (rw (d.digits, less) (filled _ _ _ d.len c.ranges.v.fits)) (put-more front c.put_all.ensures)

@@ -1,29 +1,39 @@
--- `images::sites::has_blanks`: as many rows are wanted still as the rows from the next on would have to hold.
-use mathlib.Core.Bool.{not}
-use mathlib.Core.Path.{◌∙◌, sym, ap}
-use borrow.Author.Tests.{eq-eqb, ne_eqb}
-use lib.ListN.{get_or}
-use Rattle.images.proofs.BlankRows.{no-blank, nul-blank, del-blank, blanks-end, blanks-cut, blanks-more}
+-- `images::sites::has_blanks`: so many rows are there, and all blank, or there are fewer.
+use Prim.Native.Nat.{◌-◌}
+use mathlib.Core.Path.{◌≡◌, sym, ap, ◌∙◌}
+use mathlib.Core.Logic.{inl, inr}
+use native.Mathlib.Omega.{arith}
+use lib.Dec.{leb}
+use lib.ListN.{take, drop, length-drop}
+use Rattle.std.proofs.lemmas.List.{take_all}
+use Rattle.std.specs.List.{list_all}
+use Rattle.images.specs.Images.{is_blank, blanks}
+use Rattle.images.proofs.BlankRows.{blanks-all, blanks-few, blanks-past}
 use Rattle.images.proofs.sites.has_blanks.Goals as goal
-use Rattle.images.proofs.sites.has_blanks.Goals.{else-row-ne-NUL-via-then-row-ne-NUL+else-row, else-row-ne-NUL-via-else-row-ne-NUL}
+use Rattle.images.proofs.sites.has_blanks.Goals.{In-Some}
 
-pub returns-then-tape-at : goal.returns-then-tape-at
-returns-then-tape-at c = sym (c.loop-left.invariant ∙ blanks-end c.args.tape.now c.loop-left.at c.loop-left.left c.loop-left-test.true c.if-tape-at.true)
+-- the rows behind are all from the place on
+behind : (c : In-Some) → c.in-Some.behind.now ≡ drop c.args.from c.args.tape.now
+behind c = c.in-Some.ensures.lookup.0.2 ∙ take_all _ _ (omega (arith, length-drop c.args.from c.args.tape.now))
 
-pub returns-then-row : goal.returns-then-row
-returns-then-row c =
-    let row = get_or c.args.tape.now c.loop-left.at 0 in
-    sym
-    (c.loop-left.invariant
-    ∙ blanks-cut c.args.tape.now c.loop-left.at c.loop-left.left c.loop-left-test.true c.if-tape-at.false
-    (no-blank row c.if-row-ne-NUL.true (ap not (ne_eqb row 255 c.if-row.true))))
+pub returns-in_default : goal.returns-in_default
+returns-in_default c =
+    let many = length-drop c.args.from c.args.tape.now in
+    elim c.in_default.ensures.lookup.0 [
+      | inl h ↦ blanks-past c.args.n (drop c.args.from c.args.tape.now) (omega (arith, h, many))
+      | inr h ↦ absurd (omega (arith, h))
+    ]
 
-pub loop-left-preserved : goal.loop-left-preserved
-loop-left-preserved c =
-    let row = get_or c.args.tape.now c.loop-left.at 0 in
-    c.loop-left.invariant
-    ∙ blanks-more c.args.tape.now c.loop-left.at c.loop-left.left c.loop-left-test.true c.if-tape-at.false
-    (elim c.else-row-ne-NUL.branch [
-      | else-row-ne-NUL-via-then-row-ne-NUL+else-row w ↦ del-blank row (ap not (eq-eqb row 255 w.if-row.false))
-      | else-row-ne-NUL-via-else-row-ne-NUL w ↦ nul-blank row w.if-row-ne-NUL.false
-    ])
+pub returns-in-Some-get : goal.returns-in-Some-get
+returns-in-Some-get c =
+    let k = c.in-Some-get.ensures.lookup.0 in
+    let n : c.args.n - 0 ≡ c.args.n = omega arith in
+    c.are_blank.ensures ∙ ap (list_all is_blank) k.2 ∙ ap (λ m. list_all is_blank (take m c.in-Some.behind.now)) n ∙ blanks-all c.args.n c.in-Some.behind.now (omega (arith, k.1))
+    ∙ ap (λ t. leb c.args.n (blanks t)) (behind (goal.at.returns-in-Some-get c).In-Some)
+
+pub returns-in-None : goal.returns-in-None
+returns-in-None c =
+    elim c.in-None.ensures.lookup.0 [
+      | inl h ↦ absurd (omega (arith, h))
+      | inr h ↦ blanks-few c.args.n c.in-Some.behind.now (omega (arith, h)) ∙ ap (λ t. leb c.args.n (blanks t)) (behind (goal.at.returns-in-None c).In-Some)
+    ]

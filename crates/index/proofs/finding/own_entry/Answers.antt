@@ -1,4 +1,4 @@
--- `index::finding::own_entry`: by what stages 1 to 3 of the own rows answered.
+-- `index::finding::own_entry`: a refusal of stages 1 to 3 of the own rows stands at one of them.
 use mathlib.Core.Path.{◌∙◌, sym, ap}
 use native.Mathlib.Omega.{arith}
 use borrow.Author.Rules.{part_to_end}
@@ -10,5 +10,5 @@ pub overflow_add-first : goal.overflow_add-first
 overflow_add-first c =
     let a = c.args in
     let t = a.tape.now in
-    let refused = sym (c.in-Refused.ensures ∙ ap judged (part_to_end t _ ∙ (at_end t _ _ c.at_most-from.ensures).2)) in
+    let refused = sym (c.in-Err.ensures ∙ ap judged (part_to_end t _ ∙ (at_end t _ _ c.min-from.ensures).2)) in
     omega (arith, refused-within t a.first _ _ refused)

@@ -1,15 +1,14 @@
--- `parts::ends::enter_tape`: by what the first three stages answered.
-use mathlib.Core.Path.{◌∙◌, sym, ap}
-use Rattle.rows.specs.Answer.{told}
+-- `parts::ends::enter_tape`: what is fetched first are the kept rows of the tape.
+use mathlib.Core.Path.{◌≡◌}
+use borrow.Author.Rules.{rules}
+use Rattle.rows.specs.Kept.{kept_at}
+use Rattle.words.specs.Front.{rows_at}
 use Rattle.words.proofs.Fetched.{fetched}
-use Rattle.parts.specs.Ends.{head_at}
-use Rattle.parts.proofs.Entering.{entered-refused, entered-clean}
+use Rattle.parts.specs.Ends.{entered}
 use Rattle.parts.proofs.ends.enter_tape.Goals as goal
 
-pub returns-in-Refused : goal.returns-in-Refused
-returns-in-Refused c = sym (entered-refused _ _ _ (sym c.check.ensures ∙ ap told c.in-Refused.is))
-
 pub returns : goal.returns
+unfolding entered
 returns c =
-    c.read_head.ensures ∙ ap (head_at _) (fetched _ _ _ c.next_kept.ensures)
-    ∙ sym (entered-clean _ (sym c.check.ensures ∙ ap told c.in_default.is))
+    let rows : rows_at c.args.tape.now c.next_kept.result ≡ kept_at c.args.tape.now 0 = fetched _ _ _ c.next_kept.ensures in
+    search rules

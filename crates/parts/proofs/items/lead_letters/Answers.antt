@@ -5,7 +5,7 @@ use Rattle.parts.proofs.Leading.{led-none, led-more}
 use Rattle.parts.proofs.items.lead_letters.Goals as goal
 
 pub loop-k-init : goal.loop-k-init
-loop-k-init c = (led-none _ _ refl, omega arith)
+loop-k-init c = led-none _ _ refl
 
 pub loop-k-preserved : goal.loop-k-preserved
-loop-k-preserved c = (led-more _ c.requires c.loop-k.invariant.0 c.loop-k-test.true (omega arith), omega (arith, c.loop-k-test.true))
+loop-k-preserved c = led-more _ c.args.usable.facts c.loop-k.invariant c.loop-k-test.true (omega arith)

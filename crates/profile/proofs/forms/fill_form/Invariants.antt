@@ -1,5 +1,4 @@
 -- `profile::forms::fill_form`: the walk over the places keeps `Walked`, and each way out of it is an end of `filled`.
-use Prim.Native.Nat.{◌-◌}
 use mathlib.Core.Path.{◌≡◌}
 use lib.ListN.{length}
 use Rattle.profile.specs.Form.{form_of}
@@ -8,6 +7,3 @@ use Rattle.profile.proofs.forms.fill_form.Given as goal
 
 abbrev pub invariant-loop-k : goal.invariant-loop-k
 invariant-loop-k l = (l.places ≡ length (form_of l.edition)) × Walked l.edition l.text l.bytes l.at l.k
-
-abbrev pub decreases-loop-k : goal.decreases-loop-k
-decreases-loop-k l = l.places - l.k

@@ -1,5 +1,5 @@
 -- `punching::compose::put_words`: at item k and word i the rows so far stand in the line, before those to come.
-use Prim.Native.Nat.{◌-◌, ◌≤◌}
+use Prim.Native.Nat.{◌≤◌}
 use mathlib.Core.Path.{◌≡◌}
 use Rattle.rows.specs.Answer.{taken}
 use Rattle.shorthand.specs.Layout.{way_of, items_of}
@@ -9,9 +9,10 @@ use Rattle.punching.proofs.Lines.{Coming}
 use Rattle.punching.proofs.WordSteps.{fit_left, rows_left}
 use Rattle.punching.proofs.compose.put_words.Given as goal
 
-abbrev pub invariant-loop-i : goal.invariant-loop-i
-invariant-loop-i l =
-    (l.k ≤ l.items) × (l.i ≤ l.words) × (fit_left l.format l.block l.k l.i ≡ taken tt) × Coming l.initial.line l.start (word_rows (way_of l.format) (items_of l.format) (words_of l.block)) l.line l.at (rows_left l.format l.block l.k l.i)
-
-abbrev pub decreases-loop-i : goal.decreases-loop-i
-decreases-loop-i l = l.items - l.k
+abbrev pub invariant-loop-item : goal.invariant-loop-item
+invariant-loop-item l =
+    let f = l.fn.usable.format in
+    let k = l.item-index in
+    let w = l.initial.line in
+    (l.line.rows.ghost_name ≡ w.rows.ghost_name) × (l.i ≤ l.block.count) × (fit_left f l.block k l.i ≡ taken tt)
+    × Coming w.rows.now w.at (word_rows (way_of f) (items_of f) (words_of l.block)) l.line.rows.now l.line.at (rows_left f l.block k l.i)

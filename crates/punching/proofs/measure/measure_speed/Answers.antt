@@ -8,4 +8,4 @@ use Rattle.punching.proofs.measure.measure_speed.Goals as goal
 pub returns : goal.returns
 returns c =
     let a = c.args in
-    rw (c.in-Speed.is, data-measured a.word (Kind.Speed a.k) (Value.Speed c.in-Speed.speed) (speed-fits _ _ _ _ (sym c.in-Means.is ∙ c.exact_code.ensures)))
+    rw (c.in-Speed.is, data-measured a.word (Kind.Speed a.k) (Value.Speed c.in-Speed.speed) (speed-fits _ _ _ _ (sym c.in-Some.is ∙ c.exact_code.ensures)))

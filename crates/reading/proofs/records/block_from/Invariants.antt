@@ -6,9 +6,9 @@ use Rattle.reading.proofs.StepLaws.{effort}
 use Rattle.reading.proofs.Gathering.{Gathers}
 use Rattle.reading.proofs.records.block_from.Given as goal
 
-abbrev pub invariant-loop-begun : goal.invariant-loop-begun
-invariant-loop-begun l =
-    Gathers (length l.tape) l.format l.from (kept_at l.tape l.from) (spot_told l.tape l.cursor) l.block
+abbrev pub invariant-loop-step : goal.invariant-loop-step
+invariant-loop-step l =
+    Gathers (length l.tape) l.usable.format l.from (kept_at l.tape l.from) (spot_told l.tape l.cursor) l.block
 
-abbrev pub decreases-loop-begun : goal.decreases-loop-begun
-decreases-loop-begun l = effort (length l.tape) l.from l.cursor.stage l.cursor.item
+abbrev pub decreases-loop-step : goal.decreases-loop-step
+decreases-loop-step l = effort (length l.tape) l.from l.cursor.stage l.cursor.item

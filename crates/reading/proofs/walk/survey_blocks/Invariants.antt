@@ -6,9 +6,9 @@ use Rattle.reading.proofs.StepLaws.{effort}
 use Rattle.reading.proofs.Counting.{Counts}
 use Rattle.reading.proofs.walk.survey_blocks.Given as goal
 
-abbrev pub invariant-loop-lf : goal.invariant-loop-lf
-invariant-loop-lf l =
-    Counts l.n (length l.tape) l.format l.first (rows_at l.tape l.initial.cursor.front) (spot_told l.tape l.cursor) l.count l.part l.last
+abbrev pub invariant-loop-step : goal.invariant-loop-step
+invariant-loop-step l =
+    Counts l.n (length l.tape) l.usable.format l.first (rows_at l.tape l.initial.cursor.front) (spot_told l.tape l.cursor) l.survey.count l.survey.part l.survey.last
 
-abbrev pub decreases-loop-lf : goal.decreases-loop-lf
-decreases-loop-lf l = effort (length l.tape) l.last.to l.cursor.stage l.cursor.item
+abbrev pub decreases-loop-step : goal.decreases-loop-step
+decreases-loop-step l = effort (length l.tape) l.survey.last.to l.cursor.stage l.cursor.item

@@ -1,28 +1,33 @@
 -- `salvage::pieces::count_losses`: a loop over the pieces; what is counted and what is to come are all losses.
-use Prim.Native.Nat.{ℕ, ◌+◌, ◌-◌, ◌≤◌, ◌<◌}
-use mathlib.Core.Path.{◌≡◌, ap, ◌∙◌}
-use mathlib.Core.List.{List}
+use mathlib.Core.Path.{◌≡◌, sym, ap, ◌∙◌}
 use native.Mathlib.Omega.{arith}
-use lib.ListN.{length, drop, take}
-use Rattle.rows.specs.Answer.{number_of, taken, void}
-use Rattle.rows.specs.Stages.{limit}
-use Rattle.shorthand.specs.declared.Format.{Format}
-use Rattle.reading.specs.Answers.{read}
+use Prim.Native.Nat.{◌+◌, ◌≤◌, ◌<◌}
+use lib.ListN.{length, drop}
+use Rattle.rows.specs.Answer.{told, void}
 use Rattle.reading.specs.Survey.{alone}
 use Rattle.salvage.specs.Pieces.{divided, head_of}
-use Rattle.salvage.specs.Saving.{losses}
-use Rattle.salvage.specs.Turns.{piece_at, losses_by}
-use Rattle.salvage.proofs.Dividing.{parts_last}
-use Rattle.salvage.proofs.HeadAlone.{only-head}
-use Rattle.salvage.proofs.PieceWalk.{piece-within, piece-part, count-start, count_turn, count-end}
+use Rattle.salvage.specs.Saving.{losses, saved_of}
+use Rattle.salvage.specs.Turns.{piece_at, lost_at}
+use Rattle.salvage.proofs.PieceCounts.{loss_by, none_by}
+use Rattle.salvage.proofs.PieceWalk.{head-only, piece-within, piece-part, count-start, count_turn, count-end}
 use Rattle.salvage.proofs.pieces.count_losses.Goals as goal
+use Rattle.salvage.proofs.pieces.count_losses.Goals.{After-is_err}
 
--- the head that was judged is a head and nothing else, and behind one piece
-turn : (f : Format) (t : List ℕ) (at lost end number total : ℕ) → taken tt ≡ void (read f (head_of t)) → length t ≤ limit → length (head_of t) ≤ at → at < length t → end ≡ at + length (piece_at t at)
-    → number ≡ number_of (alone f (take (end - at) (drop at t))) → lost + length (losses f (head_of t) at (divided (drop at t))) ≡ total → lost ≤ at
-    → (length (head_of t) ≤ end) × (end ≤ length t) × (lost + losses_by number + length (losses f (head_of t) end (divided (drop end t))) ≡ total) × (lost + losses_by number ≤ end) × (at < end)
-turn f t at lost end number total head short before l e q all few =
-    count_turn f (only-head f (head_of t) (parts_last t).0 head).0 t at lost end number total short before l e (q ∙ ap (λ r. number_of (alone f r)) (piece-part t at end e)) all few
+-- one piece more is counted
+turn : (c : After-is_err)
+    → let f = c.args.usable.format in
+    let t = c.args.tape.now in
+    let at = c.loop-at.at in
+    let end = c.piece_end-end.result in
+    (length (head_of t) ≤ end) × (end ≤ length t) × (c.loop-at.lost + lost_at f t at + length (losses f (head_of t) end (divided (drop end t))) ≡ length (saved_of f t).lost) × (c.loop-at.lost + lost_at f t at ≤ end) × (at < end)
+turn c =
+    let l = c.loop-at in
+    let q = c.requires.tape_len_bound in
+    count_turn c.args.usable.format (head-only c.args.usable.format c.args.tape.now q.2) c.args.tape.now l.at l.lost _ _ q.0 l.invariant.0 c.loop-at-test.true c.piece_end-end.ensures l.invariant.2 l.invariant.3
+
+-- what was judged is the piece
+judged : (c : After-is_err) → told c.judge_piece.result ≡ void (alone c.args.usable.format (piece_at c.args.tape.now c.loop-at.at))
+judged c = c.judge_piece.ensures ∙ ap (λ r. void (alone c.args.usable.format r)) (piece-part c.args.tape.now c.loop-at.at _ c.piece_end-end.ensures)
 
 pub loop-at-init : goal.loop-at-init
 loop-at-init c = count-start _ _ _ c.requires.tape_len_bound.1
@@ -30,20 +35,23 @@ loop-at-init c = count-start _ _ _ c.requires.tape_len_bound.1
 pub slice_bounds-judge_piece-end : goal.slice_bounds-judge_piece-end
 slice_bounds-judge_piece-end c = omega (arith, c.piece_end-end.ensures, piece-within c.args.tape.now c.loop-at.at c.loop-at.invariant.1)
 
-pub overflow_add-lost : goal.overflow_add-lost
-overflow_add-lost c =
-    let k = turn c.args.format c.args.tape.now c.loop-at.at c.loop-at.lost c.piece_end-end.result c.judge_piece-number.result _ c.requires.tape_len_bound.2 c.requires.tape_len_bound.0 c.loop-at.invariant.0 c.loop-at-test.true c.piece_end-end.ensures c.judge_piece-number.ensures c.loop-at.invariant.2 c.loop-at.invariant.3 in
-    record { fits = omega (arith, k.3, c.losses_by-lost.ensures, k.1, c.requires.tape_len_bound.0) }
+pub loop-at-smaller-then-is_err : goal.loop-at-smaller-then-is_err
+loop-at-smaller-then-is_err c = let k = turn (goal.at.loop-at-smaller-then-is_err c).After-is_err in omega (arith, k.1, k.4)
+
+pub loop-at-preserved-then-is_err : goal.loop-at-preserved-then-is_err
+loop-at-preserved-then-is_err c =
+    let k = turn (goal.at.loop-at-preserved-then-is_err c).After-is_err in
+    let one = loss_by _ _ (judged (goal.at.loop-at-preserved-then-is_err c).After-is_err) (sym c.is_err.ensures.value ∙ c.if-is_err.true) in
+    (k.0, k.1, omega (arith, k.2, one), omega (arith, k.3, one))
 
 pub loop-at-smaller : goal.loop-at-smaller
-loop-at-smaller c =
-    let k = turn c.args.format c.args.tape.now c.loop-at.at c.loop-at.lost c.piece_end-end.result c.judge_piece-number.result _ c.requires.tape_len_bound.2 c.requires.tape_len_bound.0 c.loop-at.invariant.0 c.loop-at-test.true c.piece_end-end.ensures c.judge_piece-number.ensures c.loop-at.invariant.2 c.loop-at.invariant.3 in
-    omega (arith, k.1, k.4)
+loop-at-smaller c = let k = turn (goal.at.loop-at-smaller c).After-is_err in omega (arith, k.1, k.4)
 
 pub loop-at-preserved : goal.loop-at-preserved
 loop-at-preserved c =
-    let k = turn c.args.format c.args.tape.now c.loop-at.at c.loop-at.lost c.piece_end-end.result c.judge_piece-number.result _ c.requires.tape_len_bound.2 c.requires.tape_len_bound.0 c.loop-at.invariant.0 c.loop-at-test.true c.piece_end-end.ensures c.judge_piece-number.ensures c.loop-at.invariant.2 c.loop-at.invariant.3 in
-    rw c.losses_by-lost.ensures (k.0, k.1, k.2, k.3)
+    let k = turn (goal.at.loop-at-preserved c).After-is_err in
+    let none = none_by _ _ (judged (goal.at.loop-at-preserved c).After-is_err) (sym c.is_err.ensures.value ∙ c.if-is_err.false) in
+    (k.0, k.1, omega (arith, k.2, none), omega (arith, k.3, none))
 
 pub returns : goal.returns
 returns c = count-end _ _ _ _ _ _ c.loop-at-test.false c.loop-at.invariant.2

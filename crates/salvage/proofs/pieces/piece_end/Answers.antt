@@ -1,19 +1,32 @@
--- `salvage::pieces::piece_end`: a loop to the first LF row; what is counted and what is to come are the whole.
-use mathlib.Core.Path.{sym, ◌∙◌}
-use native.Mathlib.Numerals.{add-one}
+-- `salvage::pieces::piece_end`: the first piece from a row on ends behind its first LF row, or where the tape does.
+use Prim.Native.Nat.{ℕ, ◌+◌, ◌-◌, ◌<◌}
+use mathlib.Core.Path.{◌≡◌, ◌∙◌, sym}
+use mathlib.Core.List.{List}
 use native.Mathlib.Omega.{arith}
-use Rattle.salvage.proofs.Dividing.{row-longer, lf-ends, none_left}
+use lib.ListN.{length, get_or, take, drop, length-drop}
+use lib.Seq.{get_or-drop, take_all}
 use borrow.Author.Rules.{rules}
+use Rattle.salvage.proofs.FirstLF.{lf-found, lf-missed}
 use Rattle.salvage.proofs.pieces.piece_end.Goals as goal
 
-pub returns-then-is_lf : goal.returns-then-is_lf
-returns-then-is_lf c = omega (arith, c.loop-at.invariant.1, lf-ends c.args.tape.now c.loop-at.at c.loop-at-test.true (sym c.is_lf.ensures ∙ c.if-is_lf.true))
+-- rows from one on are rows
+below : (t : List ℕ) (from : ℕ) → ((i : ℕ) → get_or t i 0 < 256) → (i : ℕ) → get_or (drop from t) i 0 < 256
+below t from h i = rw (get_or-drop from t i 0) (h (from + i))
 
-pub loop-at-preserved : goal.loop-at-preserved
-loop-at-preserved c =
-    let l = c.loop-at in
-    let longer = row-longer c.args.tape.now l.at c.loop-at-test.true (sym c.is_lf.ensures ∙ c.if-is_lf.false) in
-    (search rules, rw (add-one l.at) (l.invariant.1 ∙ omega (arith, longer)))
+-- to the end of the tape
+to_end : (t : List ℕ) (from : ℕ) → take (length t - from) (drop from t) ≡ drop from t
+to_end t from = take_all (length t - from) (drop from t) (omega (arith, length-drop from t))
 
-pub returns : goal.returns
-returns c = omega (arith, c.loop-at.invariant.1, none_left c.args.tape.now c.loop-at.at c.loop-at-test.false)
+pub returns-in-Some : goal.returns-in-Some
+returns-in-Some c =
+    let t = c.args.tape.now in
+    let rows : (i : ℕ) → get_or t i 0 < 256 = λ i. search rules in
+    let e = lf-found (drop c.args.from t) (below t c.args.from rows) c.in-Some.k (rw (to_end t c.args.from) at (sym c.lf_in.ensures ∙ c.in-Some.is)) in
+    omega (arith, e)
+
+pub returns-in-None : goal.returns-in-None
+returns-in-None c =
+    let t = c.args.tape.now in
+    let rows : (i : ℕ) → get_or t i 0 < 256 = λ i. search rules in
+    let e = lf-missed (drop c.args.from t) (below t c.args.from rows) (rw (to_end t c.args.from) at (sym c.lf_in.ensures ∙ c.in-None.is)) in
+    omega (arith, e, length-drop c.args.from t)

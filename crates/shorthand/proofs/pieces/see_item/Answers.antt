@@ -19,8 +19,8 @@ returns-then-text-front c =
 pub returns : goal.returns
 returns c =
     let f = front (goal.at.returns c).Joined-dot in
-    let mark = c.read_mark-marked in
-    let run = c.read_digits-run in
+    let mark = c.read_mark-mark in
+    let run = c.read_digits-digits in
     record {
       dot = f.dot;
       stands = rw f.dot (sees-item f (omega arith) mark.result run.result mark.ensures.mark mark.ensures.after run.ensures.digits run.ensures.after);

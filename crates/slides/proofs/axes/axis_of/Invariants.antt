@@ -1,10 +1,6 @@
 -- `slides::axes::axis_of`: a loop over the letters of the axes to the one asked for.
-use Prim.Native.Nat.{◌-◌}
 use Rattle.slides.proofs.AxisLetters.{Sought}
 use Rattle.slides.proofs.axes.axis_of.Given as goal
 
 abbrev pub invariant-loop-a : goal.invariant-loop-a
 invariant-loop-a l = Sought l.letter l.a
-
-abbrev pub decreases-loop-a : goal.decreases-loop-a
-decreases-loop-a l = 14 - l.a

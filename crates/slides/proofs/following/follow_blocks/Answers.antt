@@ -1,31 +1,26 @@
 -- `slides::following::follow_blocks`: a loop over the blocks to block n.
-use mathlib.Core.Path.{ap}
-use borrow.Author.Rules.{rules}
-use Rattle.rows.specs.Answer.{told}
-use Rattle.slides.proofs.Followings.{soon, follow-end, full-here, follow-refused, follow-on}
+use mathlib.Core.Path.{sym}
+use native.Mathlib.Omega.{arith}
+use Rattle.std.proofs.lemmas.Result.{err_from_is_err_and}
+use Rattle.slides.proofs.Followings.{follow-end, follow-there, full-here, follow-refused, follow-on}
 use Rattle.slides.proofs.following.follow_blocks.Goals as goal
 
-pub move_block-answer-requires : goal.move_block-answer-requires
-move_block-answer-requires c =
-    record {
-      full = full-here _ _ _ _ c.requires.facts c.requires.tape_value c.requires.n_in_bounds.0 c.loop-k.invariant c.loop-k-test.true _ c.block_from-entry.ensures;
-      places_value = c.loop-k.invariant.kept.fit;
-    }
+pub returns-in_err-entry : goal.returns-in_err-entry
+returns-in_err-entry c = absurd (follow-there _ _ _ _ c.requires.tape_value c.requires.n_in_bounds.0 c.loop-k.invariant c.loop-k-test.true _ _ c.in_err-entry.ensures)
 
-pub returns-in_default : goal.returns-in_default
-returns-in_default c =
-    let walk = c.loop-k in
-    follow-refused _ _ _ _ c.requires.facts c.requires.tape_value c.requires.n_in_bounds.0 walk.invariant c.loop-k-test.true _ c.block_from-entry.ensures _ c.move_block-answer.ensures _ _ (ap told c.in_default.is)
+pub move_block-requires-clause-full : goal.move_block-requires-clause-full
+move_block-requires-clause-full c = full-here _ _ _ _ c.requires.tape_value c.requires.n_in_bounds.0 c.loop-k.invariant c.loop-k-test.true _ c.in_ok-entry.ensures c.args.usable.facts
 
-pub overflow_add-k : goal.overflow_add-k
-overflow_add-k c =
-    let walk = c.loop-k in
-    search (rules, soon _ _ _ _ c.requires.facts c.requires.tape_value c.requires.n_in_bounds.0 walk.invariant c.loop-k-test.true)
+pub returns-in_err-slides : goal.returns-in_err-slides
+returns-in_err-slides c =
+    let p = err_from_is_err_and c.from_residual-in_err-slides.result c.from_residual-in_err-slides.ensures.1 in
+    rw (p.1, p.2, sym c.in_ok-check_travel.ensures)
+    (follow-refused _ _ _ _ c.requires.tape_value c.requires.n_in_bounds.0 c.loop-k.invariant c.loop-k-test.true _ c.in_ok-entry.ensures _ _ c.in_err-slides.ensures)
 
 pub loop-k-preserved : goal.loop-k-preserved
-loop-k-preserved c =
-    let walk = c.loop-k in
-    follow-on _ _ _ _ c.requires.facts c.requires.tape_value c.requires.n_in_bounds.0 walk.invariant c.loop-k-test.true _ c.block_from-entry.ensures _ c.move_block-answer.ensures c.in-Clean.is
+loop-k-preserved c = follow-on _ _ _ _ c.requires.tape_value c.requires.n_in_bounds.0 c.loop-k.invariant c.loop-k-test.true _ c.in_ok-entry.ensures _ c.in_ok-slides.ensures
 
-pub returns : goal.returns
-returns c = follow-end _ _ _ _ c.requires.facts c.requires.tape_value c.requires.n_in_bounds.0 c.loop-k.invariant c.loop-k-test.false
+pub returns-in_ok-slides : goal.returns-in_ok-slides
+returns-in_ok-slides c =
+    let on = follow-on _ _ _ _ c.requires.tape_value c.requires.n_in_bounds.0 c.loop-k.invariant c.loop-k-test.true _ c.in_ok-entry.ensures _ c.in_ok-slides.ensures in
+    rw (sym c.in_ok-check_travel.ensures) (follow-end _ _ _ _ c.requires.tape_value c.requires.n_in_bounds.0 on (omega arith))

@@ -13,13 +13,13 @@ use Rattle.speeds.proofs.magic.speed_of.Goals as goal
 use Rattle.speeds.proofs.magic.speed_of.Goals.{Else-limit-code, Else-others-least, Start}
 
 -- the powers asked for stand in the table: of the numbers alone, so that nothing of what is known at a place is looked through for them
-in_table : {k : ℕ} (j : ℕ) → k ≤ 5 → k - j < 14
+in_table : {k : ℕ} (j : ℕ) → k ≤ 5 → k - j < 19
 in_table j l = omega arith
 
-under-14 : {k : ℕ} → k ≤ 5 → k < 14
-under-14 l = omega arith
+under-19 : {k : ℕ} → k ≤ 5 → k < 19
+under-19 l = omega arith
 
-units-at : {k d : ℕ} → 3 ≤ k → d < 10 → d + 5 - k < 14
+units-at : {k d : ℕ} → 3 ≤ k → d < 10 → d + 5 - k < 19
 units-at three l = omega arith
 
 not-zero : {n : ℕ} → (n ≡ 0 → ⊥) → 0 < n
@@ -39,7 +39,7 @@ module _ (c : Start) where
   five = c.requires.1
 
   limit : get_or powers k 0 ≡ 10 ^ k
-  limit = power_at k (under-14 five)
+  limit = power_at k (under-19 five)
 
   unit : get_or powers (k - 1) 0 ≡ 10 ^ (k - 1)
   unit = power_at (k - 1) (in_table 1 five)

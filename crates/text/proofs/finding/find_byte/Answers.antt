@@ -1,15 +1,16 @@
--- `text::finding::find_byte` meets its contract: a byte that is another is passed over, and one that is the same is found where it stands.
-use Rattle.std.proofs.Common.{add-one, sym, ◌∙◌, arith}
-use Rattle.text.proofs.Searches.{found_here, found_later}
+-- `text::finding::find_byte` meets its contract: a byte that is found stands where it is first, and one that is not ends what is looked at.
+use Rattle.std.proofs.Common.{◌+◌, ◌∙◌, sym, ap}
+use Rattle.text.proofs.Searches.{nothing_there, found_there, found_nowhere}
 use Rattle.text.proofs.finding.find_byte.Goals as goal
 
-pub loop-i-preserved : goal.loop-i-preserved
-loop-i-preserved c = (
-  omega (arith, c.loop-i.invariant.0),
-  omega (arith, c.loop-i-test.true),
-  omega (arith, c.if-i-text.true),
-  c.loop-i.invariant.3 ∙ rw add-one (found_later _ _ _ _ c.loop-i-test.true c.if-i-text.true c.if-text-i.true),
-)
+pub returns-then-end-from-clause-found : goal.returns-then-end-from-clause-found
+returns-then-end-from-clause-found c = let a = c.args in sym (nothing_there a.text.now a.byte a.from a.to (rw c.min-end.ensures at c.if-end-from.true))
 
-pub returns-else-text-i-clause-found : goal.returns-else-text-i-clause-found
-returns-else-text-i-clause-found c = sym (c.loop-i.invariant.3 ∙ found_here _ _ _ _ c.loop-i-test.true c.if-i-text.true c.if-text-i.false)
+pub returns-in-Some-clause-found : goal.returns-in-Some-clause-found
+returns-in-Some-clause-found c =
+    let a = c.args in ap (λ k. a.from + k) (found_there a.text.now a.byte a.from a.to _ (rw c.min-end.ensures at (sym c.place_of.ensures ∙ c.in-Some.is)))
+
+pub returns-in-None-clause-found : goal.returns-in-None-clause-found
+returns-in-None-clause-found c =
+    let a = c.args in
+    c.min-end.ensures ∙ found_nowhere a.text.now a.byte a.from a.to (rw c.min-end.ensures at (sym c.place_of.ensures ∙ c.in-None.is)) (rw c.min-end.ensures at c.if-end-from.false)

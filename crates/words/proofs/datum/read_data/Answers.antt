@@ -1,17 +1,14 @@
--- `words::datum::read_data`: each arm rewrites by the sign that was read.
-use mathlib.Core.Path.{◌∙◌, sym, ap}
-use Rattle.words.specs.Front.{rows_at, sign_told}
-use Rattle.words.specs.Data.{data_at}
+-- `words::datum::read_data`: a number that was read has at most 18 digits.
+use Prim.Native.Nat.{◌≤◌}
+use mathlib.Core.Path.{sym, ap}
+use native.Mathlib.Nat.{lt_of_lt_of_le}
+use Rattle.speeds.proofs.Tens.{ten-grows}
+use Rattle.words.specs.declared.Shape.{Shape}
+use Rattle.words.proofs.DigitRun.{figures-below}
+use Rattle.words.proofs.Widths.{width-most}
 use Rattle.words.proofs.datum.read_data.Goals as goal
 
-pub returns-in-Minus : goal.returns-in-Minus
-unfolding data_at
-returns-in-Minus c =
-    let kind = c.args.kind in
-    rw (sym (c.read_sign.ensures kind c.shape_of-shape.ensures) ∙ ap (sign_told (rows_at c.args.tape.now c.args.front)) c.in-Minus.is, sym c.pass_sign-next.ensures) c.read_magnitude.ensures
-
-pub returns-in-Refused : goal.returns-in-Refused
-unfolding data_at
-returns-in-Refused c =
-    let kind = c.args.kind in
-    rw (sym (c.read_sign.ensures kind c.shape_of-shape.ensures) ∙ ap (sign_told (rows_at c.args.tape.now c.args.front)) c.in-Refused.is)
+pub mean-requires : goal.mean-requires
+mean-requires c =
+    let most : c.from-shape.result.digits ≤ 18 = rw (ap (λ (s : Shape). s.digits) c.from-shape.ensures) (width-most c.args.kind c.requires) in
+    lt_of_lt_of_le (figures-below _ _ _ _ _ _ _ (sym c.in_ok-figures.ensures)) (ten-grows most)

@@ -1,27 +1,32 @@
--- `words::figures::read_stretch`: the run from the start is the run that is left, and the number is below the power of ten of its digits.
-use Prim.Native.Nat.{◌≤◌, ◌<◌}
-use mathlib.Core.Path.{◌∙◌}
-use lib.ListN.{get_or}
-use Rattle.rows.specs.Row.{character}
-use native.Mathlib.Numerals.{add-one}
+-- `words::figures::read_stretch`: a digit is the next kept row, and where the tape has ended there is none.
+use Prim.Native.Nat.{◌-◌, ◌<◌}
+use mathlib.Core.Path.{◌≡◌, ◌∙◌, sym, ap}
+use mathlib.Core.Bool.{true, false}
+use lib.ListN.{length, get_or}
+use native.Mathlib.Nat.{le_refl}
 use native.Mathlib.Omega.{arith}
-use Rattle.words.proofs.DigitRun.{digit, run_on, one_more, one-more-fits}
+use Rattle.rows.specs.Row.{character}
+use Rattle.rows.proofs.Walks.{kept-end}
+use Rattle.words.specs.Figures.{is_digit, run}
+use Rattle.words.proofs.DigitRun.{run_on}
 use Rattle.words.proofs.Fetched.{digit-rows}
 use Rattle.words.proofs.figures.read_stretch.Goals as goal
 
-pub overflow_mul-number : goal.overflow_mul-number
-overflow_mul-number c = omega (arith, one-more-fits _ 0 _ c.loop-count.invariant.1 (omega arith) (omega (arith, c.requires.1, c.loop-count-test.true)))
+pub loop-at-preserved : goal.loop-at-preserved
+loop-at-preserved c =
+    let tape = c.args.tape.now in
+    let digit : is_digit (character (get_or tape c.loop-at.at 0)) ≡ true = sym c.is_ascii_digit.ensures.value ∙ c.if-not-is_ascii_digit.false in
+    let more : c.loop-at.digits.count < c.args.most = omega arith in
+    record {
+      on = rw (c.and-digits.ensures.number, c.and-digits.ensures.count)
+          (c.loop-at.invariant.on ∙ rw (digit-rows tape c.loop-at.at c.loop-at-test.true digit) (run_on _ _ _ _ _ _ more digit));
+      from = omega arith;
+      few = omega arith;
+    }
 
-pub overflow_add-number : goal.overflow_add-number
-overflow_add-number c = omega (arith, one-more-fits _ 9 _ c.loop-count.invariant.1 (omega arith) (omega (arith, c.requires.1, c.loop-count-test.true)))
-
-pub loop-count-preserved : goal.loop-count-preserved
-loop-count-preserved c =
-    let l : 48 ≤ character (get_or c.args.tape.now c.loop-count.at 0) = omega arith in
-    let h : character (get_or c.args.tape.now c.loop-count.at 0) < 58 = omega arith in
-    let row = digit-rows c.args.tape.now c.loop-count.at c.if-tape-at.false l h in (
-      c.loop-count.invariant.0 ∙ rw row (run_on _ _ _ _ _ _ c.loop-count-test.true (digit _ l (omega (arith, h)))),
-      rw add-one (one_more _ _ _ c.loop-count.invariant.1 (omega (arith, h))),
-      omega (arith, c.loop-count-test.true),
-      omega (arith, c.loop-count.invariant.3),
-    )
+pub returns-clause-on : goal.returns-clause-on
+returns-clause-on c =
+    let tape = c.args.tape.now in
+    let digits = c.loop-at.digits in
+    c.loop-at.invariant.on
+    ∙ ap (run (c.args.most - digits.count) digits.number digits.count) (kept-end tape _ false c.loop-at-test.false ∙ sym (kept-end tape (length tape) false (le_refl _)))

@@ -1,14 +1,14 @@
 -- `words::figures::restore`: the number with all its zeros has n digits, so it fits.
 use mathlib.Core.List.{[]}
 use native.Mathlib.Nat.{lt_of_lt_of_le}
+use native.Mathlib.Omega.{arith}
 use Rattle.speeds.proofs.Tens.{ten-grows}
 use Rattle.shorthand.specs.declared.Missing.TheVariants.{Trailing}
 use Rattle.words.proofs.DigitRun.{restored-below}
 use Rattle.words.proofs.figures.restore.Goals as goal
 
-pub with_zeros-requires : goal.with_zeros-requires
-with_zeros-requires c =
-    let args = c.args in
-    let pre = c.requires in
-    lt_of_lt_of_le (restored-below Trailing args.n (record { number = args.number; count = args.count; rest = [] }) (record { few = pre.0; small = pre.2 }))
-    (ten-grows pre.1)
+pub overflow_mul-result : goal.overflow_mul-result
+overflow_mul-result c =
+    let digits = c.args.digits in
+    let below = restored-below Trailing c.args.n (record { number = digits.number; count = digits.count; rest = [] }) (record { few = c.requires.0; small = digits.small }) in
+    rw c.ten.ensures (omega (arith, lt_of_lt_of_le below (ten-grows c.requires.1)))

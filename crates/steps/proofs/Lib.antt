@@ -1,2 +1,0 @@
--- Laws of the crate's definitions.
-pub mod Spots
