@@ -1,12 +1,10 @@
 -- What the private functions ask for and say: a tape that was judged, and what is found on it.
-use Rattle.std.specs.Prelude.{ℕ, ◌≡◌, List, [], ◌∷◌, length, get_or, refl}
+use Rattle.std.specs.Prelude.{ℕ, ◌≡◌, List, length, get_or}
 use Rattle.std.proofs.Props.{props}
-use Rattle.std.proofs.Math.Dec.{T_prop}
 use Rattle.rows.specs.Answer.{Answer, taken, ◌>>=◌}
 use Rattle.shorthand.specs.declared.Format.{Format}
-use Rattle.shorthand.specs.declared.Kind.{Kind}
-use Rattle.shorthand.specs.declared.Item.{Item}
-use Rattle.shorthand.specs.Facts.{Widths, Fair, none, more, Facts}
+use Rattle.shorthand.specs.Facts.{Facts}
+use Rattle.shorthand.specs.OneFacts.{facts-prop}
 use Rattle.reading.specs.declared.Entry.{Entry}
 use Rattle.reading.specs.Answers.{nowhere, read}
 use Rattle.reading.specs.Front.{part_of}
@@ -22,17 +20,8 @@ pub record Rolls (f : Format) (t : List ℕ) (first count : ℕ) : Type 0 where
   pub counts : count ≡ length (entries_of f t)
 
 -- all of it has one proof, so that a struct can hold it
-one_width : (k : Kind) → IsProp (Widths k)
-one_width (Kind.Plain n) = Prim.hlevel props
-one_width (Kind.Speed n) = Prim.hlevel props
-one_width (Kind.Dimension d) = Prim.hlevel props
-
-one_fair : (its : List Item) → IsProp (Fair its)
-one_fair [] none none = refl
-one_fair (it ∷ its) (more a w b r) (more c v d s) = λ i. more (T_prop _ a c i) (one_width it.kind w v i) (T_prop _ b d i) (one_fair its r s i)
-
 pub one_roll : (f : Format) (t : List ℕ) (first count : ℕ) → IsProp (Rolls f t first count)
-one_roll f t first count = Prim.hlevel (props, one_fair)
+one_roll f t first count = Prim.hlevel (props, facts-prop)
 
 -- the first of some blocks that has the number q, and where it stands
 abbrev pub sought : List Entry → ℕ → Answer Sought
