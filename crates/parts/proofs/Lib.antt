@@ -2,3 +2,4 @@
 pub mod Entering
 pub mod Leading
 pub mod BareFronts
+pub mod Marks

@@ -24,6 +24,10 @@ bare_at len bare skip rs = cond (bare rs) (taking (unnumbered skip) rs) (wrong l
 abbrev pub number_at : ℕ → ℕ → (List KeptRow → Bool) → Bool → List KeptRow → Answer (Behind Begun)
 number_at len n bare skip rs = cond (fronts 78 rs || fronts 58 rs) (digits_at len n skip (fronts 58 rs) (behind rs)) (bare_at len bare skip rs)
 
+-- the rows behind "/", where it stands
+abbrev pub past_slash : List KeptRow → List KeptRow
+past_slash rs = cond (fronts 47 rs) (behind rs) rs
+
 -- "/" for optional skip, or not; whether a block without number may begin at some rows is given
 unfoldable pub start_at : ℕ → ℕ → (List KeptRow → Bool) → List KeptRow → Answer (Behind Begun)
 start_at len n bare rs = cond (fronts 47 rs) (number_at len n bare true (behind rs)) (number_at len n bare false rs)

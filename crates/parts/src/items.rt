@@ -61,7 +61,7 @@ pub fn reach_item(tape: &[u8], rules: Rules, letter: u8, front: Option<Kept>) ->
 }
 
 // What a step has to know of a Format.
-fn rules_of(format: Format) -> Rules
+pub fn rules_of(format: Format) -> Rules
     ensures { result ≡ rules_of format }
 {
     Rules {
@@ -74,7 +74,7 @@ fn rules_of(format: Format) -> Rules
 }
 
 // For every character the place of the item with that letter, 22 where there is none.
-fn lead_letters(usable: Usable) -> [u8; 256]
+pub fn lead_letters(usable: Usable) -> [u8; 256]
     ensures { Leads usable.format result }
 {
     let mut leads = [22u8; 256];

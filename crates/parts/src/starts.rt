@@ -1,17 +1,17 @@
 // The start of a block: "/" or not, and N or ":" and the number, or no number.
 ghost use Rattle.std.specs.Prelude.{◌≡◌, List, ℕ, ◌≤◌, length};
 ghost use Rattle.rows.specs.Answer.{told_by};
+ghost use Rattle.words.specs.Figures.{fronts};
 ghost use Rattle.words.specs.Front.{rows_at, read_told};
-ghost use Rattle.parts.specs.Starts.{digits_at, bare_at, number_at, start_at};
+ghost use Rattle.parts.specs.Starts.{digits_at, bare_at, number_at, past_slash, start_at};
 ghost use Rattle.parts.specs.Items.{bare_by};
 
 use crate::{Begun, Guide};
 use rows::{Kept, Refusal};
-use shorthand::Missing;
-use words::figures::{read_figures, refuse_front};
+use words::figures::{is_digit_next, read_digits, refuse_front};
 use words::{Read, Wanted};
 
-// The digits behind N or ":".
+// The digits behind N or ":". They are read here and not by `read_figures`, which a word's data call: called from two places it is merged into neither.
 fn read_number(
     tape: &[u8],
     digits: usize,
@@ -22,14 +22,17 @@ fn read_number(
     requires { digits ≤ 18 }
     ensures { told_by (read_told tape.now) result ≡ digits_at (length tape.now) digits skip alignment (rows_at tape.now front) }
 {
-    let number = read_figures(tape, front, Wanted::Start, Missing::Nothing, digits)?;
+    let number = read_digits(tape, front, digits);
+    let front = number.front;
+    if number.value.count < digits || is_digit_next(front) {
+        return Err(refuse_front(tape, front, Wanted::Start));
+    }
     let value = Begun {
         skip,
         alignment,
         numbered: true,
-        sequence: number.value,
+        sequence: number.value.number,
     };
-    let front = number.front;
     Ok(Read { value, front })
 }
 
@@ -97,18 +100,27 @@ fn read_sequence(
     }
 }
 
-// "/" or not, and N or ":" and the number, or no number.
-#[tactic(auto, using(words::proofs::Fetched::fetched), unfolding(crate::specs::Starts::start_at))]
+// Whether the fetched row is "/".
+fn is_slash(front: Option<Kept>) -> bool
+    ensures { (t : List ℕ) → result ≡ fronts 47 (rows_at t front) }
+{
+    front.is_some_and(|row| row.character == '/')
+}
+
+// The row behind "/", where it stands.
+#[tactic(auto, using(words::proofs::Fetched::fetched))]
+fn pass_slash(tape: &[u8], front: Option<Kept>) -> Option<Kept>
+    ensures { rows_at tape.now result ≡ past_slash (rows_at tape.now front) }
+{
+    match front {
+        Some(row) if row.character == '/' => rows::next_kept(tape, row.after),
+        _ => front,
+    }
+}
+
+// "/" or not, and N or ":" and the number, or no number. `read_sequence` is called from one place, so that it is merged into this one.
 pub fn read_start(tape: &[u8], guide: &Guide, front: Option<Kept>) -> Result<Read<Begun>, Refusal>
     ensures { told_by (read_told tape.now) result ≡ start_at (length tape.now) guide.now.rules.digits (bare_by guide.now.rules guide.now.leads) (rows_at tape.now front) }
 {
-    match front {
-        Some(row) if row.character == '/' => read_sequence(
-            tape,
-            guide,
-            true,
-            rows::next_kept(tape, row.after),
-        ),
-        _ => read_sequence(tape, guide, false, front),
-    }
+    read_sequence(tape, guide, is_slash(front), pass_slash(tape, front))
 }

@@ -90,7 +90,7 @@ fn read_stretch(tape: &[u8], start: usize, most: usize, before: Digits) -> Stret
 }
 
 // At most so many digits. Behind a digit the next row is most often another.
-fn read_digits(tape: &[u8], start: Option<Kept>, most: usize) -> Read<Digits>
+pub fn read_digits(tape: &[u8], start: Option<Kept>, most: usize) -> Read<Digits>
     requires { most ≤ 18 }
     ensures told { run_told tape.now result ≡ run most 0 0 (rows_at tape.now start) }
     ensures few { result.value.count ≤ most }
@@ -111,7 +111,7 @@ fn read_digits(tape: &[u8], start: Option<Kept>, most: usize) -> Read<Digits>
     }
 }
 
-fn is_digit_next(front: Option<Kept>) -> bool
+pub fn is_digit_next(front: Option<Kept>) -> bool
     ensures { result ≡ digit_front front }
 {
     front.is_some_and(|row| row.character.is_ascii_digit())
