@@ -13,7 +13,7 @@ use corrections::{Named, Tape};
 use index::building::build_under;
 use index::finding::find_entry;
 use lines::Said;
-use lines::input::{count_listed, read_header};
+use lines::input::{count_listed, find_header};
 use printing::{ARGUMENT, Output, put_block, read_input, read_profile, space, write_last};
 use profile::Terms;
 use rows::Cause;
@@ -225,7 +225,7 @@ fn list_input<W: Write>(
     out: &mut Output,
 ) -> io::Result<()> {
     let wrong = Err(Said::from(Cause::Edition.at(0)));
-    let Ok(header) = read_header(input) else {
+    let Ok(header) = find_header(input) else {
         return write_last(writer, wrong, &mut out[..]);
     };
     let text = &input[header.from..header.to];

@@ -10,13 +10,13 @@ ghost use Rattle.std.specs.Prelude.{◌≡◌, ◌≤◌, ◌<◌, length};
 use index::building::build_under;
 use index::finding::find_entry;
 use lines::Said;
-use lines::input::{count_listed, read_header};
+use lines::input::{count_listed, find_header};
 use printing::{ARGUMENT, Output, put_block, read_input, read_profile, space, write_last};
 use profile::Terms;
 use reading::Block;
 use rows::Cause;
 use shorthand::{Kind, Usable};
-use slides::axes::{AXES, axis_of};
+use slides::axes::{AXES, axis_named};
 use slides::{Slides, Travel};
 use std::env::FillError;
 use std::io;
@@ -79,7 +79,7 @@ fn read_axis(text: &[u8], travel: Travel) -> Option<Travel> {
     if text.is_empty() {
         return None;
     }
-    let a = axis_of(text[0])?;
+    let a = axis_named(text[0])?;
     let colon = find_byte(text, 1, text.len(), b':');
     if text.len() <= colon {
         return None;
@@ -115,7 +115,7 @@ fn used_axes(usable: Usable) -> [bool; 14] {
         let Kind::Dimension(_) = item.kind else {
             continue;
         };
-        if let Some(a) = axis_of(item.letter) {
+        if let Some(a) = axis_named(item.letter) {
             used[a] = true;
         }
     }
@@ -214,7 +214,7 @@ fn follow_input<W: Write>(
     let Some(travel) = travel else {
         return write_last(writer, wrong, &mut out[..]);
     };
-    let Ok(header) = read_header(input) else {
+    let Ok(header) = find_header(input) else {
         return write_last(writer, wrong, &mut out[..]);
     };
     let terms = Terms {

@@ -21,7 +21,7 @@ use Rattle.parts.specs.Starts.{start_at}
 use Rattle.reading.specs.Answers.{program_at, read}
 use Rattle.reading.proofs.Cases.{rows}
 use Rattle.text.specs.Text.{text, decimal_in}
-use Rattle.lines.specs.Listing.{header_of, listed_under, listing}
+use Rattle.lines.specs.Listing.{header_found, listed_under, listing}
 
 pub record Case : Type 0 where
   pub profile : String
@@ -67,5 +67,5 @@ abbrev cases : List Case
 cases = with_none ++ with_one
 
 pub listings : map (λ c. listing (text c.profile) c.input) cases ≡ map (λ c. text c.output) cases
-unfolding listing header_of listed_under decimal_in agreed profiles.profiled filled agrees parsed parsed_in items_from seen stand stand_n digits_of after_digits rank due after read judged lowest scan entry ones kept_from program_at head_at blocks_at block_at start_at words_at data_at figures run speed_for meaning
+unfolding listing header_found listed_under decimal_in agreed profiles.profiled filled agrees parsed parsed_in items_from seen stand stand_n digits_of after_digits rank due after read judged lowest scan entry ones kept_from program_at head_at blocks_at block_at start_at words_at data_at figures run speed_for meaning
 listings = refl

@@ -11,7 +11,7 @@ use borrow.Author.Tests.{lt-ltb, le-ltb}
 use Rattle.std.specs.Prelude.{slice_range}
 use Rattle.rows.specs.Answer.{taken, refused}
 use Rattle.text.specs.Finding.{index_of}
-use Rattle.lines.specs.Listing.{edition_of, header_end, header_of}
+use Rattle.lines.specs.Listing.{edition_of, header_end, header_found}
 
 module _ (input : List ℕ) where
   -- a search from the front on
@@ -28,8 +28,8 @@ module _ (input : List ℕ) (most lf : ℕ) (m : most ≡ min 200 (length input)
   end : header_end input ≡ lf
   end = ap (index_of 10) (sym front) ∙ searched input 10 most h
 
-  pub no_lf : most ≤ lf → header_of input ≡ refused 1 0
-  unfolding header_of
+  pub no_lf : most ≤ lf → header_found input ≡ refused 1 0
+  unfolding header_found
   no_lf l = rw (end, le-ltb lf (length (take 200 input)) (omega (arith, long, l)))
 
   module _ (space : ℕ) (b : lf < most) (g : space ≡ 0 + index_of 32 (slice_range input 0 lf)) where
@@ -39,10 +39,10 @@ module _ (input : List ℕ) (most lf : ℕ) (m : most ≡ min 200 (length input)
     here : ltb lf (length (take 200 input)) ≡ true
     here = lt-ltb lf (length (take 200 input)) (omega (arith, long, b))
 
-    pub no-space : lf ≤ space → header_of input ≡ refused 1 0
-    unfolding header_of
+    pub no-space : lf ≤ space → header_found input ≡ refused 1 0
+    unfolding header_found
     no-space l = rw (end, gap, here, le-ltb space lf l)
 
-    pub found : space < lf → header_of input ≡ taken (record { edition = edition_of (take space input); from = space + 1; to = lf; rows = lf + 1 })
-    unfolding header_of
+    pub found : space < lf → header_found input ≡ taken (record { edition = edition_of (take space input); from = space + 1; to = lf; rows = lf + 1 })
+    unfolding header_found
     found l = rw (end, gap, here, lt-ltb space lf l)

@@ -19,7 +19,7 @@ use Rattle.reading.specs.declared.Entry.{Entry}
 use Rattle.reading.specs.Answers.{read, size_of}
 use Rattle.reading.specs.Remains.{Remains, all}
 use Rattle.lines.specs.declared.Header.{Header}
-use Rattle.lines.specs.Listing.{header_of, shorthand_of, rows_of, most, listed, listed_under, printed, listing}
+use Rattle.lines.specs.Listing.{header_found, shorthand_of, rows_of, most, listed, listed_under, printed, listing}
 
 counted-read : (f : Format) (t : List ℕ) (n : ℕ) (b : Bool) → taken n ≡ size_of (cond b (read f t) (refused 4 most)) → (es : List Entry) × (read f t ≡ taken es)
 counted-read f t n false e = let z : ◌≡◌ {A = ℕ} 0 1 = cc in absurd (omega (arith, z))
@@ -39,12 +39,12 @@ module _ (e : ℕ) (s p t : List ℕ) where
 
 -- the Format of an input's header, without a profile
 abbrev pub format_in : List ℕ → Answer Format
-format_in input = header_of input >>= λ h. parsed h.edition (shorthand_of input h)
+format_in input = header_found input >>= λ h. parsed h.edition (shorthand_of input h)
 
 -- without a profile the listing is document 01's
-pub no_profile : (input : List ℕ) → listing [] input ≡ printed (value_or empty_format (format_in input)).sequence (header_of input >>= λ h. parsed h.edition (shorthand_of input h) >>= λ f. listed f (rows_of input h))
+pub no_profile : (input : List ℕ) → listing [] input ≡ printed (value_or empty_format (format_in input)).sequence (header_found input >>= λ h. parsed h.edition (shorthand_of input h) >>= λ f. listed f (rows_of input h))
 unfolding listing listed_under
-no_profile input = by (header_of input)
+no_profile input = by (header_found input)
   where
     by : (a : Answer Header) → printed (value_or empty_format (a >>= λ h. agreed h.edition (shorthand_of input h) [])).sequence (a >>= λ h. listed_under h.edition (shorthand_of input h) [] (rows_of input h))
         ≡ printed (value_or empty_format (a >>= λ h. parsed h.edition (shorthand_of input h))).sequence (a >>= λ h. parsed h.edition (shorthand_of input h) >>= λ f. listed f (rows_of input h))

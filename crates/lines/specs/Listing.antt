@@ -23,12 +23,19 @@ abbrev pub header_end : List ℕ → ℕ
 header_end input = index_of 10 (take 200 input)
 
 -- the edition stands before the first space, the shorthand behind it up to the LF, and then the rows; what has no header has no edition, 1
-abbrev pub header_at : List ℕ → ℕ → ℕ → Answer Header
-header_at input lf space =
+abbrev pub found_at : List ℕ → ℕ → ℕ → Answer Header
+found_at input lf space =
     cond (ltb lf (length (take 200 input)) && ltb space lf) (taken (record { edition = edition_of (take space input); from = space + 1; to = lf; rows = lf + 1 })) (refused 1 0)
 
-unfoldable pub header_of : List ℕ → Answer Header
-header_of input = header_at input (header_end input) (index_of 32 (take (header_end input) input))
+unfoldable pub header_found : List ℕ → Answer Header
+header_found input = found_at input (header_end input) (index_of 32 (take (header_end input) input))
+
+-- the same with all 0 where there is no header
+abbrev pub no_header : Header
+no_header = record { edition = 0; from = 0; to = 0; rows = 0 }
+
+abbrev pub header_of : List ℕ → Header
+header_of input = value_or no_header (header_found input)
 
 abbrev pub shorthand_of : List ℕ → Header → List ℕ
 shorthand_of input h = take (h.to - h.from) (drop h.from input)
@@ -60,9 +67,9 @@ printed n (refused m p) = refusal_line m p
 
 -- the Format of an input under a profile: of its header, if it has one
 abbrev pub format_under : List ℕ → List ℕ → Answer Format
-format_under p input = header_of input >>= λ h. agreed h.edition (shorthand_of input h) p
+format_under p input = header_found input >>= λ h. agreed h.edition (shorthand_of input h) p
 
 -- all that the program writes; a profile of no bytes is none
 unfoldable pub listing : List ℕ → List ℕ → List ℕ
 listing p input =
-    printed (value_or empty_format (format_under p input)).sequence (header_of input >>= λ h. listed_under h.edition (shorthand_of input h) p (rows_of input h))
+    printed (value_or empty_format (format_under p input)).sequence (header_found input >>= λ h. listed_under h.edition (shorthand_of input h) p (rows_of input h))

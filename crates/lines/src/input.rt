@@ -2,7 +2,7 @@
 ghost use Rattle.std.specs.Prelude.{◌≡◌, ◌≤◌, length, IfOk};
 ghost use Rattle.rows.specs.Answer.{told};
 ghost use Rattle.reading.specs.Answers.{size_of};
-ghost use Rattle.lines.specs.Listing.{edition_of, header_of, listed_under};
+ghost use Rattle.lines.specs.Listing.{edition_of, header_found, header_of, listed_under};
 
 use crate::Header;
 use profile::Terms;
@@ -14,6 +14,14 @@ pub const MOST: usize = 60000;
 
 // The most bytes that a header may have.
 const HEADER: usize = 200;
+
+// What stands for a header where there is none.
+const NO_HEADER: Header = Header {
+    edition: 0,
+    from: 0,
+    to: 0,
+    rows: 0,
+};
 
 // The edition by its text; any other text is 0, which is no edition. A number and no Option: `Terms` takes any number, and refuses this one in its turn.
 fn edition_of(text: &[u8]) -> u32
@@ -27,8 +35,8 @@ fn edition_of(text: &[u8]) -> u32
 }
 
 // The header of an input; one that has none is refused as one without an edition.
-pub fn read_header(input: &[u8]) -> Result<Header, Refusal>
-    ensures header { told result ≡ header_of input.now }
+pub fn find_header(input: &[u8]) -> Result<Header, Refusal>
+    ensures header { told result ≡ header_found input.now }
     ensures within { IfOk result (λ h. (h.from ≤ h.to) × (h.to ≤ length input.now) × (h.rows ≤ length input.now)) }
 {
     let most = HEADER.min(input.len());
@@ -43,6 +51,14 @@ pub fn read_header(input: &[u8]) -> Result<Header, Refusal>
         to: lf,
         rows: lf + 1,
     })
+}
+
+// The header of an input, all 0 where there is none.
+pub fn read_header(input: &[u8]) -> Header
+    ensures header { result ≡ header_of input.now }
+    ensures within { (result.from ≤ result.to) × (result.to ≤ length input.now) × (result.rows ≤ length input.now) }
+{
+    find_header(input).unwrap_or(NO_HEADER)
 }
 
 // The number of blocks of an input's rows under its terms, or why they are not listed.

@@ -11,7 +11,7 @@ ghost use Rattle.reading.specs.Remains.{Remains};
 ghost use Rattle.lines.specs.Listing.{listed_under};
 
 use lines::Said;
-use lines::input::{count_listed, read_header};
+use lines::input::{count_listed, find_header};
 use pages::list_page;
 use parts::ends::enter_tape;
 use printing::{ARGUMENT, Output, read_input, read_profile, space, write_last};
@@ -80,7 +80,7 @@ fn list_input<W: Write>(
     profile: &[u8],
     out: &mut [u8],
 ) -> io::Result<()> {
-    let header = match read_header(input) {
+    let header = match find_header(input) {
         Ok(header) => header,
         Err(r) => return write_last(writer, Err(Said::from(r)), out),
     };

@@ -14,7 +14,7 @@ use Rattle.profile.specs.Form.{Slot, form_of}
 use Rattle.profile.specs.Agreement.{said_in}
 use Rattle.profile.specs.Answers.{filled, held_to, profiled, edition_of, agreed}
 use Rattle.lines.specs.declared.Header.{Header}
-use Rattle.lines.specs.Listing.{header_of, shorthand_of, rows_of, listed_under, printed, listing}
+use Rattle.lines.specs.Listing.{header_found, shorthand_of, rows_of, listed_under, printed, listing}
 
 -- a byte behind more bytes than the form has places is not looked at
 cut-form : (ss : List Slot) (p n : ℕ) (t : List ℕ) → length ss < n → filled ss p (take n t) ≡ filled ss p t
@@ -46,7 +46,7 @@ cut-agreed e s p = by (parsed e s)
 -- what is written for the first 32 bytes of an argument is what is written for the argument
 pub cut-argument : (p input : List ℕ) → listing (take 32 p) input ≡ listing p input
 unfolding listing listed_under
-cut-argument p input = by (header_of input)
+cut-argument p input = by (header_found input)
   where
     written : List ℕ → Answer Header → List ℕ
     written q a =

@@ -2,7 +2,7 @@
 #![tactic(auto)]
 
 ghost use Rattle.std.specs.Prelude.{◌≡◌};
-ghost use Rattle.rows.specs.Answer.{taken, told, told_by};
+ghost use Rattle.rows.specs.Answer.{number_of, place_of, taken, told, told_by};
 ghost use Rattle.reading.specs.Answers.{read, counted, block_numbered, rows_numbered};
 ghost use Rattle.reading.specs.Front.{nth_part, nth_block, has_block};
 
@@ -60,6 +60,33 @@ pub fn among(count: usize, n: usize) -> Result<(), Refusal>
         Ok(())
     } else {
         Err(Cause::NoBlock.at(count))
+    }
+}
+
+// The same of a count that may have been refused.
+pub fn within(count: Result<usize, Refusal>, n: usize) -> Result<(), Refusal>
+    ensures { told result ≡ has_block n (told count) }
+{
+    among(count?, n)
+}
+
+// The number of an outcome, 0 where nothing is refused.
+pub fn number_of(outcome: Result<(), Refusal>) -> u32
+    ensures { result ≡ number_of (told outcome) }
+{
+    match outcome {
+        Ok(()) => 0,
+        Err(refusal) => u32::from(refusal.cause),
+    }
+}
+
+// And its place.
+pub fn place_of(outcome: Result<(), Refusal>) -> usize
+    ensures { result ≡ place_of (told outcome) }
+{
+    match outcome {
+        Ok(()) => 0,
+        Err(refusal) => refusal.place,
     }
 }
 

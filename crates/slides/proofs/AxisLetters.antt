@@ -41,16 +41,16 @@ pub record Sought (c a : ℕ) : Type 0 where
   pub left : axis_of c ≡ a + place_in c (drop a axes)
 
 module _ {c a : ℕ} (s : Sought c a) where
-  pub seek-ends : a < 14 → get_or axes a 0 ≡ c → Some a ≡ axis_named c
-  seek-ends l e =
-      let p = s.left ∙ ap (λ cs. a + place_in c cs) (ahead a l) in
-      let own : axis_of c ≡ a = omega (arith, p, place_here c (get_or axes a 0) (drop (a + 1) axes) e) in
-      rw (own, lt-ltb a 14 l)
+  pub seek-ends : a < 14 → get_or axes a 0 ≡ c → a ≡ axis_of c
+  seek-ends l e = let p = s.left ∙ ap (λ cs. a + place_in c cs) (ahead a l) in omega (arith, p, place_here c (get_or axes a 0) (drop (a + 1) axes) e)
 
   pub seek-goes-on : a < 14 → (get_or axes a 0 ≡ c → ⊥) → Sought c (a + 1)
   seek-goes-on l n =
       let p = s.left ∙ ap (λ cs. a + place_in c cs) (ahead a l) in
       record { few = omega arith; left = omega (arith, p, place-on c (get_or axes a 0) (drop (a + 1) axes) n) }
+
+  pub seek-fails : 14 ≤ a → 14 ≡ axis_of c
+  seek-fails l = let p = s.left ∙ ap (λ cs. a + place_in c cs) (none_ahead a l) in omega (arith, p, s.few, place_none c)
 
 -- ---- the first axis that can't be followed
 

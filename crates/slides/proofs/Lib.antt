@@ -6,6 +6,7 @@ pub mod Histories
 pub mod Axis
 pub mod Stepping
 pub mod ReadBack
+pub mod Sums
 pub mod AxisLetters
 pub mod RuleItems
 pub mod WordWidths

@@ -1,7 +1,7 @@
 // The axes: their letters in dimension order, and whether all of them can be followed.
 ghost use Rattle.std.specs.Prelude.{◌≡◌};
 ghost use Rattle.rows.specs.Answer.{told};
-ghost use Rattle.slides.specs.Axes.{axis_named, far, unsound, sound};
+ghost use Rattle.slides.specs.Axes.{axis_of, axis_named, far, unsound, sound};
 
 use crate::Travel;
 use rows::{Cause, Refusal};
@@ -12,16 +12,24 @@ pub const AXES: [u8; 14] = [88, 89, 90, 85, 86, 87, 80, 81, 82, 65, 66, 67, 68, 
 // One million million million.
 const FARTHEST: i64 = 1000000000000000000;
 
-// The axis of a letter, if it has one.
-pub fn axis_of(letter: u8) -> Option<usize>
-    ensures { result ≡ axis_named letter }
+// The axis of a letter, or 14.
+pub fn axis_of(letter: u8) -> usize
+    ensures { result ≡ axis_of letter }
 {
     for (a, axis) in AXES.iter().enumerate() {
         if *axis == letter {
-            return Some(a);
+            return a;
         }
     }
-    None
+    14
+}
+
+// The axis of a letter, if it has one.
+pub fn axis_named(letter: u8) -> Option<usize>
+    ensures { result ≡ axis_named letter }
+{
+    let a = axis_of(letter);
+    if a < 14 { Some(a) } else { None }
 }
 
 // Beyond one million million million either way.

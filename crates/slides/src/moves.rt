@@ -6,7 +6,7 @@ ghost use Rattle.slides.specs.Axes.{farthest, sound};
 ghost use Rattle.slides.specs.Moves.{chosen_by, chosen_in, motion_of, put, words_tried, block_tried};
 ghost use Rattle.slides.specs.Front.{Full, put_within};
 
-use crate::axes::axis_of;
+use crate::axes::axis_named;
 use crate::{Motion, Rule, Slides};
 use reading::Block;
 use rows::{Cause, Refusal};
@@ -51,7 +51,7 @@ fn motion_of(word: Word) -> Option<Motion>
     let Value::Dimension(value) = word.value else {
         return None;
     };
-    let axis = axis_of(word.letter)?;
+    let axis = axis_named(word.letter)?;
     Some(Motion { axis, value })
 }
 

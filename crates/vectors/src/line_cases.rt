@@ -3,20 +3,12 @@ use crate::answers::{Output, put_all, put_counted, put_number, put_rows};
 use crate::asked::{
     behind_profile, fill, narrow, number, rest, room_in, rows_of, terms_of, text_of,
 };
-use lines::{Header, Said};
-
-// What is written of an input that has no header.
-const NO_HEADER: Header = Header {
-    edition: 0,
-    from: 0,
-    to: 0,
-    rows: 0,
-};
+use lines::Said;
 
 // O: the header of an input.
 pub fn header(asked: &[u8], input: &mut [u8], out: &mut Output, at: usize) -> usize {
     let n = text_of(asked, input);
-    let header = lines::input::read_header(&input[0..n]).unwrap_or(NO_HEADER);
+    let header = lines::input::read_header(&input[0..n]);
     let edition = put_all(out, at, b" 0 0");
     let from = put_number(out, edition, header.edition as u64);
     let to = put_number(out, from, header.from as u64);
